@@ -1,0 +1,12 @@
+mod Counting
+mod FlipLaws
+mod JournalLaws
+mod KeptLaws
+mod Marking
+mod ReachedLaws
+mod ReportLaws
+mod RowLaws
+mod SettledLaws
+mod SoloLaws
+mod ToldLaws
+mod TopLaws

@@ -1,0 +1,152 @@
+-- What an act does to the rows that the state gives.
+use Rattle.std.proofs.Common.{◌≡◌, ◌≢◌, ◌<◌, ◌≤◌, ◌+◌, ◌↔◌, ℕ, Bool, true, false, List, [], ◌∷◌, Option, None, Some, length, refl, sym, ap, subst, ◌∙◌, arith, add-one, get_or, eqb, ltb, ◌&&◌, is_some, inl, inr, ◌⊎◌}
+use Rattle.std.specs.Prelude.{IsSome, if◌then◌else◌, ◌==◌}
+use Rattle.agent_run.proofs.Marking.{partly, at_next, put_next, stays_next}
+use Rattle.std.specs.Option.{option_map}
+use Rattle.std.specs.Ordering.{nat_cmp}
+use Rattle.std.proofs.lemmas.Bool.{cases_Bool, cond-true, cond-false, eqb-true, eqb-false, ltb-true, lt-ltb, and_parts}
+use Rattle.std.specs.Bool.{beq}
+use Rattle.std.specs.Cmp.{booleans_Decides}
+use Rattle.chip_core.specs.Chip.{IsChip, view_of}
+use Rattle.keyed.specs.Keyed.{Ascends, at, put, change, with_values}
+use Rattle.keyed.specs.KeyedLaws.{decide, at-put, at-put_other, put-put, put_over, length-put_new, with_values-put}
+use Rattle.keyed.specs.KeyOrders.{nat_order}
+use Rattle.keyed.specs.ValueLaws.{at-change, at-change_other}
+use Rattle.net_types.specs.KeyOrder.{l2_cmp, l2_order}
+use Rattle.net_types.specs.Rows.{Rows}
+use Rattle.net_types.specs.declared.table.Caps.{Caps}
+use Rattle.net_types.specs.declared.table.L2Key.{L2Key}
+use Rattle.net_types.specs.declared.table.L2Row.{L2Row}
+use Rattle.net_types.specs.declared.table.Table.TheVariants.{L2}
+use Rattle.net_types.specs.declared.table.Tables.{Tables}
+use Rattle.switch_model.specs.declared.act.Act.{Act}
+use Rattle.switch_model.specs.declared.act.Act.TheVariants.{VlanAdd, PortAdd}
+use Rattle.switch_model.specs.declared.record.MacRec.{MacRec}
+use Rattle.switch_model.specs.declared.record.PortRec.{PortRec}
+use Rattle.switch_model.specs.Capacity.{over}
+use Rattle.switch_model.specs.Effect.{effect, with_up}
+use Rattle.switch_model.specs.First.{first_that_holds}
+use Rattle.switch_model.specs.Reason.{reason, reasons}
+use Rattle.switch_model.specs.PlainState.{PlainState, port_at}
+use Rattle.switch_model.specs.Rows.{is_up, l2_row, rows}
+
+pub with_values-alike : {K V W : Type 0} (f g : V → W) → ((v : V) → f v ≡ g v) → (l : List (K × V)) → with_values f l ≡ with_values g l
+with_values-alike f g alike [] = refl
+with_values-alike {K} f g alike (e ∷ es) = ap (λ w. (e.0, w) ∷ with_values f es) (alike e.1) ∙ ap (λ r. (e.0, g e.1) ∷ r) (with_values-alike f g alike es)
+
+-- rows depend on the MAC entries and on which ports are up
+pub rows_alike : (m : PlainState) (ports : List (ℕ × PortRec)) → ((q : ℕ) → is_up (at nat_cmp q ports) ≡ is_up (port_at m q)) → rows (record m { ports = ports }) ≡ rows m
+rows_alike m ports alike = ap (λ l. record { l2 = l }) (with_values-alike (l2_row (record m { ports = ports })) (l2_row m) (λ v. ap (λ up. record { port = v.port; up = up }) (alike v.port)) m.macs)
+
+-- a new port is down, as one that isn't there
+up_new : (port vlan : ℕ) (ports : List (ℕ × PortRec)) → at nat_cmp port ports ≡ None → (q : ℕ) → is_up (at nat_cmp q (put nat_cmp port (record { vlan = vlan; up = false }) ports)) ≡ is_up (at nat_cmp q ports)
+up_new port vlan ports none q = elim (decide nat_cmp nat_order q port) [
+  | inl here ↦ subst (λ (k : ℕ). is_up (at nat_cmp k (put nat_cmp port (record { vlan = vlan; up = false }) ports)) ≡ is_up (at nat_cmp k ports)) (sym here) (ap is_up (at-put nat_cmp nat_order port (record { vlan = vlan; up = false }) ports) ∙ sym (ap is_up none))
+  | inr other ↦ ap is_up (at-put_other nat_cmp nat_order q port (record { vlan = vlan; up = false }) ports other)
+]
+
+pub rows_port_add : (m : PlainState) (port vlan : ℕ) → port_at m port ≡ None → rows (record m { ports = put nat_cmp port (record { vlan = vlan; up = false }) m.ports }) ≡ rows m
+rows_port_add m port vlan none = rows_alike m (put nat_cmp port (record { vlan = vlan; up = false }) m.ports) (up_new port vlan m.ports none)
+
+unless : {A : Type 0} (a b : Bool) (x y : A) → (if a then Some x else (if b then Some y else None)) ≡ None → b ≡ false
+unless true b x y none = absurd (cc)
+unless false true x y none = absurd (cc)
+unless false false x y none = refl
+
+absent : {A : Type 0} (o : Option A) → is_some o ≡ false → o ≡ None
+absent None is = refl
+absent (Some x) is = absurd (cc)
+
+-- a new VLAN or port has no rows
+pub rows_added : (m : PlainState) (act : Act) → ((vlan : ℕ) × (name : List ℕ) × (act ≡ VlanAdd vlan name)) ⊎ ((port : ℕ) × (vlan : ℕ) × (act ≡ PortAdd port vlan)) → reason m (record { alone = false; act = act }) ≡ None → rows (effect m act) ≡ rows m
+rows_added m act (inl (vlan, name, is)) valid = ap (λ (a : Act). rows (effect m a)) is
+rows_added m act (inr (port, vlan, is)) valid =
+    let valid2 : first_that_holds (reasons m (PortAdd port vlan)) ≡ None = ap (λ (a : Act). first_that_holds (reasons m a)) (sym is) ∙ valid in
+    ap (λ (a : Act). rows (effect m a)) is ∙ rows_port_add m port vlan (absent (port_at m port) (unless _ _ _ _ valid2))
+
+-- a flip
+up_mapped : (up : Bool) (port : Option PortRec) → IsSome port → is_up (option_map (with_up up) port) ≡ up
+up_mapped up None there = absurd (cc)
+up_mapped up (Some p) there = refl
+
+pub up_flipped : (port : ℕ) (up : Bool) (ports : List (ℕ × PortRec)) → IsSome (at nat_cmp port ports) → is_up (at nat_cmp port (change nat_cmp port (with_up up) ports)) ≡ up
+up_flipped port up ports there = ap is_up (at-change nat_cmp port (with_up up) ports) ∙ up_mapped up (at nat_cmp port ports) there
+
+pub up_other : (q port : ℕ) (up : Bool) (ports : List (ℕ × PortRec)) → q ≢ port → is_up (at nat_cmp q (change nat_cmp port (with_up up) ports)) ≡ is_up (at nat_cmp q ports)
+up_other q port up ports other = ap is_up (at-change_other nat_cmp nat_order q port (with_up up) ports other)
+
+-- a flip of a port that is so already
+pub rows_flip_same : (m : PlainState) (port : ℕ) (up : Bool) → IsSome (port_at m port) → is_up (port_at m port) ≡ up → rows (record m { ports = change nat_cmp port (with_up up) m.ports }) ≡ rows m
+rows_flip_same m port up there is = rows_alike m (change nat_cmp port (with_up up) m.ports) (λ q. elim (decide nat_cmp nat_order q port) [
+  | inl here ↦ subst (λ (k : ℕ). is_up (at nat_cmp k (change nat_cmp port (with_up up) m.ports)) ≡ is_up (port_at m k)) (sym here) (up_flipped port up m.ports there ∙ sym is)
+  | inr other ↦ up_other q port up m.ports other
+])
+
+-- a station's row
+pub programmed : (m : PlainState) (key : L2Key) (port : ℕ) (up : Bool) (raw next : Tables) → view_of raw ≡ rows m → up ≡ is_up (port_at m port) → next ≡ record raw { l2 = put l2_cmp key (record { port = port; up = up }) raw.l2 } → view_of next ≡ rows (record m { macs = put l2_cmp key (record { port = port }) m.macs })
+programmed m key port up raw next in_step is step =
+    ap view_of step ∙ ap (λ (r : Rows). record { l2 = put l2_cmp key (record { port = port; up = up }) r.l2 }) in_step ∙ ap (λ (b : Bool). record { l2 = put l2_cmp key (record { port = port; up = b }) (rows m).l2 }) is ∙ ap (λ (l : List (L2Key × L2Row)). record { l2 = l }) (sym (with_values-put l2_cmp l2_order (l2_row m) key (record { port = port }) m.macs))
+
+put_same : (key : L2Key) (row : L2Row) (l : List (L2Key × L2Row)) → at l2_cmp key l ≡ Some row → put l2_cmp key row l ≡ l
+put_same key row l there = sym (put_over l2_cmp l2_order key row row l) ∙ put-put l2_cmp l2_order key row row l there
+
+same_row : (row : L2Row) (port : ℕ) (up : Bool) → true ≡ (eqb row.port port && beq row.up up) → row ≡ record { port = port; up = up }
+same_row row port up is =
+    let both : (eqb row.port port ≡ true) × (beq row.up up ≡ true) = and_parts _ _ (sym is) in
+    let ports : row.port ≡ port = eqb-true row.port port both.0 in
+    let ups : row.up ≡ up = (booleans_Decides row.up up).0 both.1 in
+    ap (λ (q : ℕ). record row { port = q }) ports ∙ ap (λ (b : Bool). record { port = port; up = b }) ups
+
+-- a row that is so already
+pub stands : (m : PlainState) (key : L2Key) (port : ℕ) (up : Bool) (raw : Tables) (row : L2Row) → view_of raw ≡ rows m → up ≡ is_up (port_at m port) → Some row ≡ at l2_cmp key raw.l2 → true ≡ (eqb row.port port && beq row.up up) → view_of raw ≡ rows (record m { macs = put l2_cmp key (record { port = port }) m.macs })
+stands m key port up raw row in_step is there same =
+    let there2 : at l2_cmp key raw.l2 ≡ Some (record { port = port; up = up }) = sym there ∙ ap (λ (r : L2Row). Some r) (same_row row port up same) in
+    programmed m key port up raw raw in_step is (ap (λ (l : List (L2Key × L2Row)). record raw { l2 = l }) (sym (put_same key (record { port = port; up = up }) raw.l2 there2)))
+
+-- which rows are over the capacity
+is_over : (r : Rows) (caps : Caps) → caps.l2 < length r.l2 → over r caps ≡ Some L2
+is_over r caps lt = rw (lt-ltb _ _ lt) refl
+
+was_over : (r : Rows) (caps : Caps) → over r caps ≡ Some L2 → caps.l2 < length r.l2
+was_over r caps over = elim (cases_Bool (ltb caps.l2 (length r.l2))) [
+  | inl lt ↦ ltb-true _ _ lt
+  | inr not ↦ let no : None ≡ Some L2 = rw not at over in absurd (cc)
+]
+
+-- a new row has no room exactly where the table is at its capacity
+pub full_new : {P : Type 0} (m : PlainState) (key : L2Key) (port : ℕ) (up : Bool) (raw : Tables) (caps : Caps) → view_of raw ≡ rows m → up ≡ is_up (port_at m port) → length raw.l2 ≤ caps.l2 → None ≡ at l2_cmp key raw.l2 → P ↔ (length raw.l2 ≡ caps.l2) → P ↔ (over (rows (record m { macs = put l2_cmp key (record { port = port }) m.macs })) caps ≡ Some L2)
+full_new m key port up raw caps in_step is fits none full =
+    let row : L2Row = record { port = port; up = up } in
+    let after : List (L2Key × L2Row) = (rows (record m { macs = put l2_cmp key (record { port = port }) m.macs })).l2 in
+    let longer : length after ≡ length raw.l2 + 1 = sym (ap (λ (r : Rows). length r.l2) (programmed m key port up raw (record raw { l2 = put l2_cmp key row raw.l2 }) in_step is refl)) ∙ length-put_new l2_cmp l2_order key row raw.l2 (sym none) in
+    (λ err. is_over (record { l2 = after }) caps (omega (arith, longer, full.0 err)), λ over. full.1 (omega (arith, longer, was_over (record { l2 = after }) caps over)))
+
+-- rows that a chip holds have room
+pub has_room : (raw : Tables) (r : Rows) (now caps : Caps) → IsChip now raw → now ≡ caps → view_of raw ≡ r → (false ≡ true) ↔ (over r caps ≡ Some L2)
+has_room raw r now caps chip same is =
+    let fits : length r.l2 ≤ caps.l2 = omega (arith, chip.l2_fits, ap (λ (c : Caps). c.l2) same, ap (λ (x : Rows). length x.l2) is) in
+    (λ no. absurd (cc), λ over. absurd (omega (arith, fits, was_over r caps over)))
+
+-- a station's row once the port is flipped
+abbrev pub flipped : PlainState → ℕ → Bool → PlainState
+flipped m port up = record m { ports = change nat_cmp port (with_up up) m.ports }
+
+pub row_there : (m : PlainState) (port : ℕ) (up : Bool) (rec : MacRec) → IsSome (port_at m port) → rec.port ≡ port → l2_row (flipped m port up) rec ≡ record { port = port; up = up }
+row_there m port up rec there is = ap (λ (q : ℕ). record { port = q; up = is_up (port_at (flipped m port up) q) }) is ∙ ap (λ (b : Bool). record { port = port; up = b }) (up_flipped port up m.ports there)
+
+pub row_other : (m : PlainState) (port : ℕ) (up : Bool) (rec : MacRec) → rec.port ≢ port → l2_row (flipped m port up) rec ≡ l2_row m rec
+row_other m port up rec other = ap (λ (b : Bool). record { port = rec.port; up = b }) (up_other rec.port port up m.ports other)
+
+-- one turn over the stations
+pub marked : (m : PlainState) (port : ℕ) (up : Bool) (n : ℕ) (e : L2Key × MacRec) (now next : Tables) → IsSome (port_at m port) → Ascends l2_cmp m.macs → n < length m.macs → e ≡ get_or m.macs n e → now.l2 ≡ partly (l2_row (flipped m port up)) (l2_row m) n m.macs → next ≡ (if e.1.port == port then record now { l2 = put l2_cmp e.0 (record { port = port; up = up }) now.l2 } else now) → next.l2 ≡ partly (l2_row (flipped m port up)) (l2_row m) (n + 1) m.macs
+marked m port up n e now next there asc lt is stood step = elim (cases_Bool (e.1.port == port)) [
+  | inl here ↦
+      let row : l2_row (flipped m port up) e.1 ≡ record { port = port; up = up } = row_there m port up e.1 there (eqb-true e.1.port port here) in
+      ap (λ (r : Tables). r.l2) (step ∙ cond-true (e.1.port == port) (record now { l2 = put l2_cmp e.0 (record { port = port; up = up }) now.l2 }) now here) ∙ ap (put l2_cmp e.0 (record { port = port; up = up })) stood ∙ ap (λ (r : L2Row). put l2_cmp e.0 r (partly (l2_row (flipped m port up)) (l2_row m) n m.macs)) (sym row) ∙ rw add-one (put_next l2_cmp l2_order (l2_row (flipped m port up)) (l2_row m) m.macs n e asc lt is)
+  | inr other ↦
+      let row : l2_row (flipped m port up) e.1 ≡ l2_row m e.1 = row_other m port up e.1 (eqb-false e.1.port port other) in
+      ap (λ (r : Tables). r.l2) (step ∙ cond-false (e.1.port == port) (record now { l2 = put l2_cmp e.0 (record { port = port; up = up }) now.l2 }) now other) ∙ stood ∙ rw add-one (stays_next (l2_row (flipped m port up)) (l2_row m) m.macs n e lt is row)
+]
+
+pub row_stands : (m : PlainState) (port : ℕ) (up : Bool) (n : ℕ) (e : L2Key × MacRec) (now : Tables) → Ascends l2_cmp m.macs → n < length m.macs → e ≡ get_or m.macs n e → now.l2 ≡ partly (l2_row (flipped m port up)) (l2_row m) n m.macs → IsSome (at l2_cmp e.0 now.l2)
+row_stands m port up n e now asc lt is stood = ap (λ l. is_some (at l2_cmp e.0 l)) stood ∙ ap is_some (at_next l2_cmp l2_order (l2_row (flipped m port up)) (l2_row m) m.macs n e asc lt is)

@@ -1,0 +1,13 @@
+-- The exit status of each outcome.
+use Rattle.std.specs.Prelude.{ℕ}
+use Rattle.agent_run.specs.declared.status.Status.{Status}
+use Rattle.agent_run.specs.declared.status.Status.TheVariants as status
+
+abbrev pub code_of : Status → ℕ
+code_of status.Done = 0
+code_of status.Words = 2
+code_of status.Script = 3
+code_of status.ReadFault = 4
+code_of status.WriteFault = 5
+code_of status.NoMemory = 8
+code_of status.TooLong = 9

@@ -1,0 +1,67 @@
+-- What a caller was told is true of the journal.
+use Rattle.std.specs.Prelude.{ℕ, ◌≡◌, ◌≤◌, ◌<◌, ◌+◌, List, [], ◌∷◌, ◌++◌, Some, length, map, slice_get}
+use Rattle.std.specs.List.{AllByRecursion}
+use Rattle.script_text.specs.declared.script.Line.{Line}
+use Rattle.script_text.specs.declared.script.Script.{Script}
+use Rattle.switch_model.specs.declared.act.Update.{Update}
+use Rattle.switch_model.specs.declared.journal.Entry.{Entry}
+use Rattle.switch_model.specs.declared.journal.Round.{Round}
+use Rattle.switch_model.specs.declared.reply.Reply.{Reply}
+use Rattle.switch_model.specs.declared.reply.Reply.TheVariants.{Settled, HistoryFull}
+use Rattle.switch_model.specs.Journal.{Journal, entries, entries_of, own, strip}
+use Rattle.switch_model.specs.Reached.{IsFront}
+
+-- that many entries are the journal up to the end of a round, or none
+abbrev pub IsRoundEnd : Journal → ℕ → Type 0
+IsRoundEnd j front = (rounds : List Round) × IsFront rounds j.rounds × (front ≡ length (entries_of rounds))
+
+-- the entry at that place of the journal is the line's own update, with this verdict and version
+pub record IsSettledAt (j : Journal) (line : Line) (seq position : ℕ) (entry : Entry) : Type 0 where
+  pub there : slice_get (entries j) position ≡ Some entry
+  pub caller : entry.caller ≡ line.caller
+  pub seq_is : entry.seq ≡ seq
+  pub update : entry.update ≡ line.update
+
+-- the reply to a line before which its caller had submitted that many updates, and been told of that front
+abbrev pub IsTold : ℕ → Journal → Line → ℕ → ℕ → Reply → Type 0
+IsTold limit j line seq before (Settled position verdict version front) =
+    (entry : Entry) × IsSettledAt j line seq position entry × (verdict ≡ entry.verdict) × (version ≡ entry.version) × (position < front) × IsRoundEnd j front × (before ≤ front)
+IsTold limit j line seq before HistoryFull = length (entries j) ≡ limit
+
+-- the updates that a caller had submitted and the front that it had been told of, after one more reply
+abbrev pub seq_after : ℕ → Reply → ℕ
+seq_after seq (Settled position verdict version front) = seq + 1
+seq_after seq HistoryFull = seq
+
+abbrev pub front_after : ℕ → Reply → ℕ
+front_after before (Settled position verdict version front) = front
+front_after before HistoryFull = before
+
+-- a caller that was refused is refused from then on
+abbrev pub StaysRefused : Reply → List (ℕ × Reply) → Type 0
+StaysRefused (Settled position verdict version front) rs = Unit {0}
+StaysRefused HistoryFull rs = AllByRecursion (λ r. r.1 ≡ HistoryFull) rs
+
+-- each line has one reply, under its number, which is true of the journal
+abbrev pub AreTold : ℕ → Journal → ℕ → ℕ → List Line → List (ℕ × Reply) → Type 0
+AreTold limit j seq before [] [] = Unit {0}
+AreTold limit j seq before [] (r ∷ rs) = ⊥
+AreTold limit j seq before (line ∷ lines) [] = ⊥
+AreTold limit j seq before (line ∷ lines) (r ∷ rs) =
+    (r.0 ≡ line.line) × IsTold limit j line seq before r.1 × StaysRefused r.1 rs × AreTold limit j (seq_after seq r.1) (front_after before r.1) lines rs
+
+-- the update of a line that wasn't refused
+abbrev pub update_taken : Line → Reply → List Update
+update_taken line (Settled position verdict version front) = line.update ∷ []
+update_taken line HistoryFull = []
+
+-- the updates of the lines that weren't refused
+abbrev pub taken : List Line → List (ℕ × Reply) → List Update
+taken [] rs = []
+taken (line ∷ lines) [] = []
+taken (line ∷ lines) (r ∷ rs) = update_taken line r.1 ++ taken lines rs
+
+-- the replies of one caller's script, over its journal
+pub record Told (script : Script) (j : Journal) (replies : List (ℕ × Reply)) : Type 0 where
+  pub each : AreTold script.limit j 0 0 script.lines replies
+  pub all : map (λ s. s.update) (own 0 (strip j)) ≡ taken script.lines replies

@@ -1,0 +1,196 @@
+// The state of the switch, as sorted lists.
+ghost use Rattle.std.specs.Prelude.{◌≡◌, [], ◌∷◌, not, is_some, is_none, OnOk, OnErr};
+ghost use Rattle.std.specs.Ordering.{nat_cmp};
+ghost use Rattle.keyed.specs.Keyed.{change, Ascends};
+ghost use Rattle.net_types.specs.KeyOrder.{l2_cmp};
+ghost use Rattle.net_types.specs.Unicast.{is_unicast};
+ghost use Rattle.switch_model.specs.First.{first_that_holds};
+ghost use Rattle.switch_model.specs.PlainState.{empty, port_at, vlan_at};
+ghost use Rattle.switch_model.specs.Reason.{reason, is_in_vlan};
+ghost use Rattle.switch_model.specs.Effect.{effect, with_up};
+ghost use Rattle.switch_model.specs.Rows.{is_up};
+
+use net_types::{L2Key, Mac, NoMemory, Port, Vlan};
+use std::alloc::Global;
+use std::marker::Model;
+use switch_model::{Act, MacRec, PortRec, Reason, Update, VlanRec};
+
+/// What stands in the switch: VLANs, ports, and the stations' ports.
+#[derive(Debug, Drop)]
+pub struct State {
+    vlans: Vec<(Vlan, VlanRec)>,
+    ports: Vec<(Port, PortRec)>,
+    macs: Vec<(L2Key, MacRec)>,
+}
+
+impl Model for State {
+    ghost use Rattle.switch_model.specs.PlainState.{PlainState};
+
+    ghost Value = { PlainState };
+
+    ghost use Rattle.agent_run.specs.Ordered.{IsOrdered};
+
+    ghost view = { λ s. record { vlans = s.vlans.items; ports = s.ports.items; macs = s.macs.items } };
+
+    ghost invariant = { λ s. IsOrdered s.vlans.items s.ports.items s.macs.items };
+}
+
+impl State {
+    pub fn new(alloc: Global) -> State
+        ensures { result ≡ empty }
+    {
+        State {
+            vlans: Vec::new(alloc),
+            ports: Vec::new(alloc),
+            macs: Vec::new(alloc),
+        }
+    }
+
+    /// The stations and their ports, by ascending VLAN and MAC.
+    pub fn macs(&self) -> &[(L2Key, MacRec)]
+        ensures value { result.now ≡ self.now.macs }
+        ensures ascend { Ascends l2_cmp result.now }
+    {
+        self.macs.as_slice()
+    }
+
+    pub fn has_vlan(&self, vlan: Vlan) -> bool
+        ensures { result ≡ is_some (vlan_at self.now vlan) }
+    {
+        keyed::contains(self.vlans.as_slice(), &vlan)
+    }
+
+    pub fn has_port(&self, port: Port) -> bool
+        ensures { result ≡ is_some (port_at self.now port) }
+    {
+        keyed::contains(self.ports.as_slice(), &port)
+    }
+
+    /// Whether the port is there and up.
+    pub fn is_up(&self, port: Port) -> bool
+        ensures { result ≡ is_up (port_at self.now port) }
+    {
+        match keyed::get(self.ports.as_slice(), &port) {
+            Some(rec) => rec.up,
+            None => false,
+        }
+    }
+
+    /// Whether the port is there and in the VLAN.
+    pub fn is_in_vlan(&self, port: Port, vlan: Vlan) -> bool
+        ensures { result ≡ is_in_vlan vlan (port_at self.now port) }
+    {
+        match keyed::get(self.ports.as_slice(), &port) {
+            Some(rec) => rec.vlan == vlan,
+            None => false,
+        }
+    }
+
+    /// Why an update is invalid, if it is.
+    pub fn reason(&self, update: &Update) -> Option<Reason>
+        ensures { result ≡ reason self.now update.now }
+    {
+        match &update.act {
+            Act::VlanAdd { vlan, .. } => self.vlan_reason(*vlan),
+            Act::PortAdd { port, vlan } => self.port_reason(*port, *vlan),
+            Act::PortUp { port } | Act::PortDown { port } => self.flip_reason(*port),
+            Act::MacSet { vlan, mac, port } => self.mac_reason(*vlan, *mac, *port),
+        }
+    }
+
+    fn vlan_reason(&self, vlan: Vlan) -> Option<Reason>
+        ensures { result ≡ first_that_holds ((Reason.VlanExists, is_some (vlan_at self.now vlan)) ∷ []) }
+    {
+        if self.has_vlan(vlan) {
+            return Some(Reason::VlanExists);
+        }
+        None
+    }
+
+    fn port_reason(&self, port: Port, vlan: Vlan) -> Option<Reason>
+        ensures { result ≡ first_that_holds ((Reason.NoVlan, is_none (vlan_at self.now vlan)) ∷ (Reason.PortExists, is_some (port_at self.now port)) ∷ []) }
+    {
+        if !self.has_vlan(vlan) {
+            return Some(Reason::NoVlan);
+        }
+        if self.has_port(port) {
+            return Some(Reason::PortExists);
+        }
+        None
+    }
+
+    fn flip_reason(&self, port: Port) -> Option<Reason>
+        ensures { result ≡ first_that_holds ((Reason.NoPort, is_none (port_at self.now port)) ∷ []) }
+    {
+        if !self.has_port(port) {
+            return Some(Reason::NoPort);
+        }
+        None
+    }
+
+    fn mac_reason(&self, vlan: Vlan, mac: Mac, port: Port) -> Option<Reason>
+        ensures { result ≡ first_that_holds ((Reason.NoVlan, is_none (vlan_at self.now vlan)) ∷ (Reason.NoPort, is_none (port_at self.now port)) ∷ (Reason.BadMac, not (is_unicast mac)) ∷ (Reason.PortNotInVlan, not (is_in_vlan vlan (port_at self.now port))) ∷ []) }
+    {
+        if !self.has_vlan(vlan) {
+            return Some(Reason::NoVlan);
+        }
+        if !self.has_port(port) {
+            return Some(Reason::NoPort);
+        }
+        if !mac.is_unicast() {
+            return Some(Reason::BadMac);
+        }
+        if !self.is_in_vlan(port, vlan) {
+            return Some(Reason::PortNotInVlan);
+        }
+        None
+    }
+
+    /// The effect of an act that is valid, in the place of what stands under its key. After a
+    /// refusal of memory the state is as before.
+    pub fn apply(&mut self, alloc: Global, act: &Act) -> Result<(), NoMemory>
+        ensures ok { OnOk result (self.new ≡ effect self.old act.now) }
+        ensures err { OnErr result (self.new ≡ self.old) }
+    {
+        match act {
+            Act::VlanAdd { vlan, name } => {
+                let name = name.copy(alloc)?;
+                keyed::put(&mut self.vlans, *vlan, VlanRec { name })
+            }
+            Act::PortAdd { port, vlan } => keyed::put(
+                &mut self.ports,
+                *port,
+                PortRec {
+                    vlan: *vlan,
+                    up: false,
+                },
+            ),
+            Act::PortUp { port } => {
+                self.flip(*port, true);
+                Ok(())
+            }
+            Act::PortDown { port } => {
+                self.flip(*port, false);
+                Ok(())
+            }
+            Act::MacSet { vlan, mac, port } => keyed::put(
+                &mut self.macs,
+                L2Key {
+                    vlan: *vlan,
+                    mac: *mac,
+                },
+                MacRec { port: *port },
+            ),
+        }
+    }
+
+    fn flip(&mut self, port: Port, up: bool)
+        ensures { self.new ≡ record self.old { ports = change nat_cmp port (with_up up) self.old.ports } }
+    {
+        let Some(rec) = keyed::get(self.ports.as_slice(), &port) else {
+            return;
+        };
+        let rec = PortRec { vlan: rec.vlan, up };
+        let _ = keyed::set(self.ports.as_mut_slice(), &port, rec);
+    }
+}

@@ -1,0 +1,102 @@
+// The program as one call.
+ghost use Rattle.std.specs.Prelude.{◌≡◌, ◌+◌, ◌↔◌, Decides, map, codes};
+ghost use Rattle.std.specs.String.{string_bytes};
+ghost use Rattle.io_edge.specs.Causes.{Rose, ReadsFront, Writes};
+ghost use Rattle.agent_run.specs.Top.{IsRunCommand, Reported, Refused, CutShort, WritesNothing, IsComplete, Served, Answered};
+
+use crate::report::report_of;
+use crate::status::Status;
+use io_edge::{Gate, ReadFault, Sink, Source, Store, read_all, write_all};
+use script_text::ScriptFault;
+use std::alloc::Global;
+use std::sync::Wait;
+use std::thread::Threads;
+
+/// The longest script that is read, in bytes.
+pub const LONGEST_SCRIPT: usize = 16_777_216;
+
+/// Does what the words ask, and says how that ended. The one command is `run`: the source's bytes
+/// are a script, and the report of its run goes to the sink. The tests come in this order: the
+/// words, the reading, the script; then the script is run and the report is written.
+///
+/// The store and the gate are for later commands: the store is left as it is, and no caller is held.
+pub fn agent_main<Rt: Threads + Wait + Sync, S: Source, K: Sink, F: Store, G: Gate + Sync>(
+    _rt: &Rt,
+    alloc: Global,
+    words: &Vec<String>,
+    source: &mut S,
+    sink: &mut K,
+    store: &mut F,
+    _gate: &G,
+) -> Status
+    // The whole input is a script, and the report of its run was written, and nothing else.
+    ensures done { result ≡ Status.Done → Reported (S.left source.old) (S.left source.new) (K.written sink.old) (K.written sink.new) }
+
+    // Exactly where the words aren't the one word `run`; nothing was read then.
+    ensures words { (result ≡ Status.Words) ↔ (IsRunCommand (map string_bytes words.now.items) → ⊥) }
+    ensures words_line { result ≡ Status.Words → Writes (K.written sink.old) (K.written sink.new) (K.faults sink.old) (K.faults sink.new) (codes "error: words\n") }
+    ensures words_unread { result ≡ Status.Words → S.left source.new ≡ S.left source.old }
+
+    // The whole input is no script. Where it is one, no status says otherwise: see `done` and `cut_short`.
+    ensures script { result ≡ Status.Script → Refused (S.left source.old) (S.left source.new) (K.written sink.old) (K.written sink.new) (K.faults sink.old) (K.faults sink.new) }
+
+    // Faults come only from the outside: its count of faults rose.
+    ensures read_fault { result ≡ Status.ReadFault → Rose (S.faults source.old) (S.faults source.new) }
+    ensures write_fault { result ≡ Status.WriteFault → Rose (K.faults sink.old) (K.faults sink.new) }
+    ensures cut_short { result ≡ Status.WriteFault → CutShort (S.left source.old) (S.left source.new) (K.written sink.old) (K.written sink.new) }
+
+    // One byte more than the longest script came. Where another status tells of a whole input, it isn't longer.
+    ensures too_long { result ≡ Status.TooLong → ReadsFront (S.left source.old) (S.left source.new) (LONGEST_SCRIPT + 1) }
+    ensures nothing_written { WritesNothing result (K.written sink.old) (K.written sink.new) }
+
+    // A whole script, with no fault on the way, is reported, but for want of memory.
+    ensures complete { IsComplete (map string_bytes words.now.items) (S.left source.old) result (Rose (S.faults source.old) (S.faults source.new)) (Rose (K.faults sink.old) (K.faults sink.new)) }
+    ensures store { F.texts store.new ≡ F.texts store.old }
+{
+    let _ = store;
+    serve(alloc, words, source, sink)
+}
+
+fn serve<S: Source, K: Sink>(
+    alloc: Global,
+    words: &Vec<String>,
+    source: &mut S,
+    sink: &mut K,
+) -> Status
+    ensures { Served (map string_bytes words.now.items) (record { left = S.left source.old; read_faults = S.faults source.old; written = K.written sink.old; write_faults = K.faults sink.old }) (record { left = S.left source.new; read_faults = S.faults source.new; written = K.written sink.new; write_faults = K.faults sink.new }) result }
+{
+    if !is_run_command(words) {
+        let _ = write_all(sink, b"error: words\n");
+        return Status::Words;
+    }
+    match read_all(alloc, source, LONGEST_SCRIPT) {
+        Ok(bytes) => answer(alloc, &bytes, sink),
+        Err(ReadFault::Failed) => Status::ReadFault,
+        Err(ReadFault::TooLong) => Status::TooLong,
+        Err(ReadFault::NoMemory) => Status::NoMemory,
+    }
+}
+
+fn is_run_command(words: &Vec<String>) -> bool
+    ensures { Decides result (IsRunCommand (map string_bytes words.now.items)) }
+{
+    words.len() == 1 && words[0].as_str() == "run"
+}
+
+/// Writes the report of the run of a script, or the line that says that the bytes are none.
+fn answer<K: Sink>(alloc: Global, bytes: &[u8], sink: &mut K) -> Status
+    ensures { Answered bytes.now (K.written sink.old) (K.written sink.new) (K.faults sink.old) (K.faults sink.new) result }
+{
+    let report = match report_of(alloc, bytes) {
+        Ok(report) => report,
+        Err(ScriptFault::Refused) => {
+            let _ = write_all(sink, b"error: script\n");
+            return Status::Script;
+        }
+        Err(ScriptFault::NoMemory) => return Status::NoMemory,
+    };
+    match write_all(sink, report.as_slice()) {
+        Ok(()) => Status::Done,
+        Err(_) => Status::WriteFault,
+    }
+}

@@ -1,0 +1,5 @@
+pub mod MacLaws
+pub mod NameLaws
+pub mod VersionLaws
+pub mod RowLaws
+pub mod Writes

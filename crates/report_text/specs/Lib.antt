@@ -1,0 +1,4 @@
+pub mod UpdateText
+pub mod EntryText
+pub mod RowText
+pub mod Report

@@ -1,0 +1,20 @@
+//! The report of a run: what each line of the script was told, the journal in rounds, and the
+//! rows of the chip's tables, in one text.
+#![tactic(auto)]
+
+mod head;
+mod journal;
+mod mac;
+mod replies;
+mod report;
+mod tables;
+mod update;
+mod words;
+
+pub use head::ReportHead;
+pub use mac::printed_macs_are_read;
+pub use report::report_bytes;
+pub use update::write_update;
+
+#[cfg(test)]
+mod tests;

@@ -1,0 +1,9 @@
+mod FieldLaws
+mod Steps
+mod Numbers
+mod Forms
+mod Fields
+mod Octets
+mod MacLaws
+mod ActLaws
+mod WholeLaws

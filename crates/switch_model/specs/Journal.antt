@@ -1,0 +1,66 @@
+-- The journal: how each submission was settled, in rounds.
+use Rattle.std.specs.Prelude.{ℕ, ◌==◌, List, [], ◌∷◌, ◌++◌, map, filter}
+use Rattle.net_types.specs.declared.table.Caps.{Caps}
+use Rattle.switch_model.specs.declared.act.Submission.{Submission}
+use Rattle.switch_model.specs.declared.act.Update.{Update}
+use Rattle.switch_model.specs.declared.journal.Entry.{Entry}
+use Rattle.switch_model.specs.declared.journal.Round.{Round}
+use Rattle.switch_model.specs.declared.verdict.Verdict.{Verdict}
+use Rattle.switch_model.specs.declared.verdict.Verdict.TheVariants.{Accepted, Invalid, Full}
+use Rattle.switch_model.specs.PlainState.{PlainState}
+use Rattle.switch_model.specs.Effect.{effect}
+
+-- what a journal begins with: a state, its version, and the chip's capacities
+pub record Opening : Type 0 where
+  pub state : PlainState
+  pub version : ℕ
+  pub caps : Caps
+
+pub record Journal : Type 0 where
+  pub opening : Opening
+  pub rounds : List Round
+
+-- the entries of rounds, one round after another
+abbrev pub entries_of : List Round → List Entry
+entries_of [] = []
+entries_of (round ∷ rounds) = round.entries ++ entries_of rounds
+
+abbrev pub entries : Journal → List Entry
+entries j = entries_of j.rounds
+
+-- the state after an update with that verdict: only an accepted one changes it
+abbrev pub after_verdict : PlainState → Update → Verdict → PlainState
+after_verdict m update Accepted = effect m update.act
+after_verdict m update (Invalid r) = m
+after_verdict m update (Full t) = m
+
+abbrev pub after_entries : PlainState → List Entry → PlainState
+after_entries m [] = m
+after_entries m (entry ∷ es) = after_entries (after_verdict m entry.update entry.verdict) es
+
+-- the version of the last entry, or the one before
+abbrev pub version_after : ℕ → List Entry → ℕ
+version_after v [] = v
+version_after v (entry ∷ es) = version_after entry.version es
+
+-- the opening state with the accepted updates applied in order
+abbrev pub fold : Journal → PlainState
+fold j = after_entries j.opening.state (entries j)
+
+abbrev pub version_of : Journal → ℕ
+version_of j = version_after j.opening.version (entries j)
+
+abbrev pub submission_of : Entry → Submission
+submission_of entry = record { caller = entry.caller; seq = entry.seq; update = entry.update }
+
+-- what was settled, without how
+abbrev pub strip : Journal → List Submission
+strip j = map submission_of (entries j)
+
+-- the submissions of one caller
+abbrev pub own : ℕ → List Submission → List Submission
+own caller = filter (λ s. s.caller == caller)
+
+-- the journal with one more round
+abbrev pub with_round : Journal → Round → Journal
+with_round j round = record j { rounds = j.rounds ++ round ∷ [] }

@@ -1,0 +1,10 @@
+pub mod First
+pub mod PlainState
+pub mod Reason
+pub mod Effect
+pub mod Rows
+pub mod Capacity
+pub mod Journal
+pub mod Round
+pub mod Legal
+pub mod Reached
