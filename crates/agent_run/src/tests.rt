@@ -232,3 +232,50 @@ fn a_failing_write_leaves_a_front(rt: HostRuntime) -> Result<(), Fail> {
     assert_eq!(rt; written.as_slice(), b"report 1\nstart cold ".as_slice());
     Ok(())
 }
+
+#[test]
+fn each_failing_read_is_told(rt: HostRuntime) -> Result<(), Fail> {
+    for piece in [1, 7, 16] {
+        let reads = ONE_PORT.len().div_ceil(piece) + 1;
+        for call in 0..reads {
+            let (status, written) = run(
+                &rt,
+                rt.alloc(),
+                ONE_PORT,
+                (piece, &[call as u64]),
+                (64, &[]),
+            )?;
+            assert_eq!(rt; status, Status::ReadFault, "at read {call} of {piece}");
+            assert!(rt; written.is_empty());
+        }
+        let past = [reads as u64];
+        let (status, written) = run(&rt, rt.alloc(), ONE_PORT, (piece, &past), (64, &[]))?;
+        assert_eq!(rt; status, Status::Done);
+        assert_eq!(rt; written.as_slice(), ONE_PORT_REPORT);
+    }
+    Ok(())
+}
+
+#[test]
+fn each_failing_write_leaves_its_front(rt: HostRuntime) -> Result<(), Fail> {
+    for (script, report) in [(ONE_PORT, ONE_PORT_REPORT), (NO_LINES, NO_LINES_REPORT)] {
+        for piece in [1, 7, 10, 16] {
+            for call in 0..report.len().div_ceil(piece) {
+                let failing = [call as u64];
+                let (status, written) = run(&rt, rt.alloc(), script, (64, &[]), (piece, &failing))?;
+                assert_eq!(rt; status, Status::WriteFault, "at write {call} of {piece}");
+                let front = call.saturating_mul(piece).min(report.len());
+                assert_eq!(rt; written.as_slice(), &report[..front]);
+            }
+        }
+    }
+    Ok(())
+}
+
+#[test]
+fn an_error_line_is_cut_where_the_sink_fails(rt: HostRuntime) -> Result<(), Fail> {
+    let (status, written) = run(&rt, rt.alloc(), b"limit 1\n", (16, &[]), (5, &[1]))?;
+    assert_eq!(rt; status, Status::Script);
+    assert_eq!(rt; written.as_slice(), b"error".as_slice());
+    Ok(())
+}
