@@ -1,14 +1,12 @@
 -- How many rows differ once a row is put, and once a port is flipped.
-use Rattle.std.proofs.Common.{◌≡◌, ◌≢◌, ◌<◌, ◌+◌, ℕ, suc, Bool, true, false, not, eqb, ◌&&◌, List, [], ◌∷◌, Option, Some, length, get_or, drop, refl, sym, ap, ◌∙◌, arith, inl, inr}
+use Rattle.std.proofs.Common.{◌≡◌, ◌≢◌, ◌+◌, ℕ, suc, Bool, true, false, not, eqb, ◌&&◌, List, [], ◌∷◌, Option, Some, length, refl, sym, ap, ◌∙◌, arith, inl, inr}
 use Rattle.std.specs.Prelude.{Result, Ok, Err, OnOk, is_ok, IsSome, if◌then◌else◌, ◌==◌, filter}
 use Rattle.std.specs.Bool.{beq}
 use Rattle.std.specs.List.{IsAmong}
 use Rattle.std.specs.Cmp.{booleans_Decides}
-use Rattle.std.specs.Option.{option_map}
 use Rattle.std.proofs.lemmas.Bool.{cases_Bool, eq-eqb, eqb-true, eqb-false, and_from}
-use Rattle.std.proofs.lemmas.List.{at_drop_more}
-use Rattle.keyed.specs.Keyed.{at, put, Ascends, with_values}
-use Rattle.keyed.specs.KeyedLaws.{by_order, at-with_values}
+use Rattle.keyed.specs.Keyed.{at, put, Ascends}
+use Rattle.keyed.specs.KeyedLaws.{by_order}
 use Rattle.keyed.specs.ValueLaws.{at-among}
 use Rattle.net_types.specs.KeyOrder.{l2_cmp, l2_order}
 use Rattle.net_types.specs.Rows.{Rows}
@@ -90,11 +88,8 @@ one_written (Err e) now next n step one = tt
 pub apart : (a b up : Bool) → a ≡ b → beq a up ≡ false → b ≢ up
 apart a b up is other same = let no_ : false ≡ true = sym other ∙ (booleans_Decides a up).1 (is ∙ same) in absurd (cc)
 
--- the stations whose rows a flip still has to write
-abbrev pub left : PlainState → ℕ → Bool → List (L2Key × MacRec) → ℕ
-left m port up macs = length (filter (is_changed (rows m)) (with_values (l2_row (flipped m port up)) macs))
-
-station_changed : (m : PlainState) (port : ℕ) (up : Bool) (e : L2Key × MacRec) → IsSome (port_at m port) → is_up (port_at m port) ≢ up → at l2_cmp e.0 (rows m).l2 ≡ Some (l2_row m e.1) → is_changed (rows m) (e.0, l2_row (flipped m port up) e.1) ≡ (e.1.port == port)
+-- a flip changes the row of each station of the port, and of no other
+pub station_changed : (m : PlainState) (port : ℕ) (up : Bool) (e : L2Key × MacRec) → IsSome (port_at m port) → is_up (port_at m port) ≢ up → at l2_cmp e.0 (rows m).l2 ≡ Some (l2_row m e.1) → is_changed (rows m) (e.0, l2_row (flipped m port up) e.1) ≡ (e.1.port == port)
 station_changed m port up e there other stands = elim (cases_Bool (e.1.port == port)) [
   | inl here ↦
       let is : e.1.port ≡ port = eqb-true e.1.port port here in
@@ -108,19 +103,3 @@ station_changed m port up e there other stands = elim (cases_Bool (e.1.port == p
       let row : l2_row (flipped m port up) e.1 ≡ l2_row m e.1 = row_other m port up e.1 (eqb-false e.1.port port away) in
       ap (λ (r : L2Row). not (is_row r (at l2_cmp e.0 (rows m).l2))) row ∙ not_changed (rows m) (e.0, l2_row m e.1) stands ∙ sym away
 ]
-
-pub left_more : (m : PlainState) (port : ℕ) (up : Bool) (n : ℕ) (e : L2Key × MacRec) (now next whole : ℕ) → IsSome (port_at m port) → is_up (port_at m port) ≢ up → Ascends l2_cmp m.macs → n < length m.macs → e ≡ get_or m.macs n e → next ≡ (if e.1.port == port then now + 1 else now) → now + left m port up (drop n m.macs) ≡ whole → next + left m port up (drop (n + 1) m.macs) ≡ whole
-left_more m port up n e now next whole there other asc lt is step so_far =
-    let stands : at l2_cmp e.0 (rows m).l2 ≡ Some (l2_row m e.1) = at-with_values l2_cmp l2_order (l2_row m) e.0 m.macs ∙ ap (λ (o : Option MacRec). option_map (l2_row m) o) (at-among l2_cmp l2_order e m.macs asc (n, (lt, is))) in
-    let opened : left m port up (drop n m.macs) ≡ left m port up (e ∷ drop (n + 1) m.macs) = at_drop_more (left m port up) m.macs n e lt ∙ ap (λ (x : L2Key × MacRec). left m port up (x ∷ drop (n + 1) m.macs)) (sym is) in
-    let first : is_changed (rows m) (e.0, l2_row (flipped m port up) e.1) ≡ (e.1.port == port) = station_changed m port up e there other stands in
-    elim (cases_Bool (e.1.port == port)) [
-      | inl here ↦
-          let after : next ≡ now + 1 = step ∙ rw here refl in
-          let more : left m port up (e ∷ drop (n + 1) m.macs) ≡ suc (left m port up (drop (n + 1) m.macs)) = rw (first ∙ here) refl in
-          omega (arith, so_far, after, opened, more)
-      | inr away ↦
-          let after : next ≡ now = step ∙ rw away refl in
-          let more : left m port up (e ∷ drop (n + 1) m.macs) ≡ left m port up (drop (n + 1) m.macs) = rw (first ∙ away) refl in
-          omega (arith, so_far, after, opened, more)
-    ]

@@ -1,5 +1,6 @@
 mod Counting
 mod FlipLaws
+mod IndexLaws
 mod JournalLaws
 mod KeptLaws
 mod Marking
@@ -8,5 +9,6 @@ mod ReportLaws
 mod RowLaws
 mod SettledLaws
 mod SoloLaws
+mod StationLaws
 mod ToldLaws
 mod TopLaws

@@ -1,14 +1,13 @@
 -- What an act does to the rows that the state gives.
-use Rattle.std.proofs.Common.{◌≡◌, ◌≢◌, ◌<◌, ◌≤◌, ◌+◌, ◌↔◌, ℕ, Bool, true, false, List, [], ◌∷◌, Option, None, Some, length, refl, sym, ap, subst, ◌∙◌, arith, add-one, get_or, eqb, ltb, ◌&&◌, is_some, inl, inr, ◌⊎◌}
-use Rattle.std.specs.Prelude.{IsSome, if◌then◌else◌, ◌==◌}
-use Rattle.agent_run.proofs.Marking.{partly, at_next, put_next, stays_next}
+use Rattle.std.proofs.Common.{◌≡◌, ◌≢◌, ◌<◌, ◌≤◌, ◌+◌, ◌↔◌, ℕ, Bool, true, false, List, [], ◌∷◌, Option, None, Some, length, refl, sym, ap, subst, ◌∙◌, arith, eqb, ltb, ◌&&◌, is_some, inl, inr, ◌⊎◌}
+use Rattle.std.specs.Prelude.{IsSome, if◌then◌else◌}
 use Rattle.std.specs.Option.{option_map}
 use Rattle.std.specs.Ordering.{nat_cmp}
-use Rattle.std.proofs.lemmas.Bool.{cases_Bool, cond-true, cond-false, eqb-true, eqb-false, ltb-true, lt-ltb, and_parts}
+use Rattle.std.proofs.lemmas.Bool.{cases_Bool, eqb-true, ltb-true, lt-ltb, and_parts}
 use Rattle.std.specs.Bool.{beq}
 use Rattle.std.specs.Cmp.{booleans_Decides}
 use Rattle.chip_core.specs.Chip.{IsChip, view_of}
-use Rattle.keyed.specs.Keyed.{Ascends, at, put, change, with_values}
+use Rattle.keyed.specs.Keyed.{at, put, change, with_values}
 use Rattle.keyed.specs.KeyedLaws.{decide, at-put, at-put_other, put-put, put_over, length-put_new, with_values-put}
 use Rattle.keyed.specs.KeyOrders.{nat_order}
 use Rattle.keyed.specs.ValueLaws.{at-change, at-change_other}
@@ -136,17 +135,3 @@ row_there m port up rec there is = ap (λ (q : ℕ). record { port = q; up = is_
 
 pub row_other : (m : PlainState) (port : ℕ) (up : Bool) (rec : MacRec) → rec.port ≢ port → l2_row (flipped m port up) rec ≡ l2_row m rec
 row_other m port up rec other = ap (λ (b : Bool). record { port = rec.port; up = b }) (up_other rec.port port up m.ports other)
-
--- one turn over the stations
-pub marked : (m : PlainState) (port : ℕ) (up : Bool) (n : ℕ) (e : L2Key × MacRec) (now next : Tables) → IsSome (port_at m port) → Ascends l2_cmp m.macs → n < length m.macs → e ≡ get_or m.macs n e → now.l2 ≡ partly (l2_row (flipped m port up)) (l2_row m) n m.macs → next ≡ (if e.1.port == port then record now { l2 = put l2_cmp e.0 (record { port = port; up = up }) now.l2 } else now) → next.l2 ≡ partly (l2_row (flipped m port up)) (l2_row m) (n + 1) m.macs
-marked m port up n e now next there asc lt is stood step = elim (cases_Bool (e.1.port == port)) [
-  | inl here ↦
-      let row : l2_row (flipped m port up) e.1 ≡ record { port = port; up = up } = row_there m port up e.1 there (eqb-true e.1.port port here) in
-      ap (λ (r : Tables). r.l2) (step ∙ cond-true (e.1.port == port) (record now { l2 = put l2_cmp e.0 (record { port = port; up = up }) now.l2 }) now here) ∙ ap (put l2_cmp e.0 (record { port = port; up = up })) stood ∙ ap (λ (r : L2Row). put l2_cmp e.0 r (partly (l2_row (flipped m port up)) (l2_row m) n m.macs)) (sym row) ∙ rw add-one (put_next l2_cmp l2_order (l2_row (flipped m port up)) (l2_row m) m.macs n e asc lt is)
-  | inr other ↦
-      let row : l2_row (flipped m port up) e.1 ≡ l2_row m e.1 = row_other m port up e.1 (eqb-false e.1.port port other) in
-      ap (λ (r : Tables). r.l2) (step ∙ cond-false (e.1.port == port) (record now { l2 = put l2_cmp e.0 (record { port = port; up = up }) now.l2 }) now other) ∙ stood ∙ rw add-one (stays_next (l2_row (flipped m port up)) (l2_row m) m.macs n e lt is row)
-]
-
-pub row_stands : (m : PlainState) (port : ℕ) (up : Bool) (n : ℕ) (e : L2Key × MacRec) (now : Tables) → Ascends l2_cmp m.macs → n < length m.macs → e ≡ get_or m.macs n e → now.l2 ≡ partly (l2_row (flipped m port up)) (l2_row m) n m.macs → IsSome (at l2_cmp e.0 now.l2)
-row_stands m port up n e now asc lt is stood = ap (λ l. is_some (at l2_cmp e.0 l)) stood ∙ ap is_some (at_next l2_cmp l2_order (l2_row (flipped m port up)) (l2_row m) m.macs n e asc lt is)

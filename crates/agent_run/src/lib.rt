@@ -6,6 +6,7 @@ mod program;
 mod report;
 mod solo;
 mod state;
+mod stations;
 mod status;
 mod switch;
 mod top;

@@ -1,6 +1,6 @@
 // Programs the chip with the rows that a valid act changes.
 ghost use Rattle.std.specs.Prelude.{◌≡◌, ◌==◌, ◌+◌, ◌↔◌, false, None, Some, IsErr, IsSome, OnErr, OnOk, if◌then◌else◌};
-ghost use Rattle.keyed.specs.Keyed.{at, change, put};
+ghost use Rattle.keyed.specs.Keyed.{change};
 ghost use Rattle.net_types.specs.KeyOrder.{l2_cmp};
 ghost use Rattle.std.specs.Ordering.{nat_cmp};
 ghost use Rattle.net_types.specs.declared.table.Table.TheVariants.{L2};
@@ -15,7 +15,7 @@ ghost use Rattle.switch_model.specs.Rows.{rows};
 use crate::state::State;
 use chip_core::{Full, HwSwitch, L2Key, L2Row};
 use net_types::{Mac, Port, Vlan};
-use switch_model::{Act, MacRec};
+use switch_model::Act;
 
 /// Writes the rows that differ once the act has its effect. Where its one new row has no room, the
 /// chip is as before.
@@ -88,19 +88,7 @@ fn flip_port<C: HwSwitch>(chip: &mut C, state: &State, port: Port, up: bool)
     if state.is_up(port) == up {
         return;
     }
-    for station in state.macs() {
-        mark_row(chip, &station.0, &station.1, port, up);
-    }
-}
-
-/// Marks a station's row where the station is behind the port.
-fn mark_row<C: HwSwitch>(chip: &mut C, key: &L2Key, rec: &MacRec, port: Port, up: bool)
-    requires there { IsSome (at l2_cmp key.now (C.raw chip.old).l2) }
-    ensures raw { C.raw chip.new ≡ (if rec.now.port == port then record (C.raw chip.old) { l2 = put l2_cmp key.now (record { port = port; up = up }) (C.raw chip.old).l2 } else C.raw chip.old) }
-    ensures writes { C.writes chip.new ≡ (if rec.now.port == port then C.writes chip.old + 1 else C.writes chip.old) }
-    ensures caps { C.caps chip.new ≡ C.caps chip.old }
-{
-    if rec.port == port {
-        let _ = chip.set_l2(key, L2Row { port, up });
+    for station in state.stations(port) {
+        let _ = chip.set_l2(&station.key, L2Row { port, up });
     }
 }

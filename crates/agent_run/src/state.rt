@@ -1,8 +1,9 @@
 // The state of the switch, as sorted lists.
-ghost use Rattle.std.specs.Prelude.{◌≡◌, [], ◌∷◌, not, is_some, is_none, OnOk, OnErr};
+ghost use Rattle.std.specs.Prelude.{◌≡◌, ◌≢◌, [], ◌∷◌, not, None, Some, is_some, is_none, OnOk, OnErr};
 ghost use Rattle.std.specs.Ordering.{nat_cmp};
-ghost use Rattle.keyed.specs.Keyed.{change, Ascends};
+ghost use Rattle.keyed.specs.Keyed.{at, change, put, Ascends};
 ghost use Rattle.net_types.specs.KeyOrder.{l2_cmp};
+ghost use Rattle.agent_run.specs.Stations.{stations_behind};
 ghost use Rattle.net_types.specs.Unicast.{is_unicast};
 ghost use Rattle.switch_model.specs.First.{first_that_holds};
 ghost use Rattle.switch_model.specs.PlainState.{empty, port_at, vlan_at};
@@ -10,17 +11,21 @@ ghost use Rattle.switch_model.specs.Reason.{reason, is_in_vlan};
 ghost use Rattle.switch_model.specs.Effect.{effect, with_up};
 ghost use Rattle.switch_model.specs.Rows.{is_up};
 
+use crate::stations::{Station, Stations};
 use net_types::{L2Key, Mac, NoMemory, Port, Vlan};
 use std::alloc::Global;
+use std::collections::btree_set::Range;
 use std::marker::Model;
 use switch_model::{Act, MacRec, PortRec, Reason, Update, VlanRec};
 
-/// What stands in the switch: VLANs, ports, and the stations' ports.
+/// What stands in the switch: VLANs, ports, and the stations' ports. The stations are kept by port
+/// as well, so that a port's flip meets its own stations alone.
 #[derive(Debug, Drop)]
 pub struct State {
     vlans: Vec<(Vlan, VlanRec)>,
     ports: Vec<(Port, PortRec)>,
     macs: Vec<(L2Key, MacRec)>,
+    stations: Stations,
 }
 
 impl Model for State {
@@ -28,11 +33,11 @@ impl Model for State {
 
     ghost Value = { PlainState };
 
-    ghost use Rattle.agent_run.specs.Ordered.{IsOrdered};
+    ghost use Rattle.agent_run.specs.Stations.{IsSound};
 
     ghost view = { λ s. record { vlans = s.vlans.items; ports = s.ports.items; macs = s.macs.items } };
 
-    ghost invariant = { λ s. IsOrdered s.vlans.items s.ports.items s.macs.items };
+    ghost invariant = { λ s. IsSound s.vlans.items s.ports.items s.macs.items s.stations };
 }
 
 impl State {
@@ -43,15 +48,16 @@ impl State {
             vlans: Vec::new(alloc),
             ports: Vec::new(alloc),
             macs: Vec::new(alloc),
+            stations: Stations::new(alloc),
         }
     }
 
-    /// The stations and their ports, by ascending VLAN and MAC.
-    pub fn macs(&self) -> &[(L2Key, MacRec)]
-        ensures value { result.now ≡ self.now.macs }
-        ensures ascend { Ascends l2_cmp result.now }
+    /// The stations whose MAC entries name the port, by ascending VLAN and MAC.
+    pub fn stations(&self, port: Port) -> Range<'_, Station>
+        ensures value { result ≡ stations_behind port self.now.macs }
+        ensures ascend { Ascends l2_cmp self.now.macs }
     {
-        self.macs.as_slice()
+        self.stations.behind(port)
     }
 
     pub fn has_vlan(&self, vlan: Vlan) -> bool
@@ -173,15 +179,53 @@ impl State {
                 self.flip(*port, false);
                 Ok(())
             }
-            Act::MacSet { vlan, mac, port } => keyed::put(
-                &mut self.macs,
+            Act::MacSet { vlan, mac, port } => self.set_station(
                 L2Key {
                     vlan: *vlan,
                     mac: *mac,
                 },
-                MacRec { port: *port },
+                *port,
             ),
         }
+    }
+
+    fn set_station(&mut self, key: L2Key, port: Port) -> Result<(), NoMemory>
+        ensures ok { OnOk result (self.new ≡ record self.old { macs = put l2_cmp key (record { port = port }) self.old.macs }) }
+        ensures err { OnErr result (self.new ≡ self.old) }
+    {
+        match keyed::get(self.macs.as_slice(), &key).copied() {
+            None => self.add_station(&key, port),
+            Some(rec) if rec.port == port => Ok(()),
+            Some(rec) => self.move_station(&key, rec.port, port),
+        }
+    }
+
+    fn add_station(&mut self, key: &L2Key, port: Port) -> Result<(), NoMemory>
+        requires { at l2_cmp key.now self.old.macs ≡ None }
+        ensures ok { OnOk result (self.new ≡ record self.old { macs = put l2_cmp key.now (record { port = port }) self.old.macs }) }
+        ensures err { OnErr result (self.new ≡ self.old) }
+    {
+        self.macs.reserve(1)?;
+        self.stations.enter(Station { port, key: *key })?;
+        keyed::put(&mut self.macs, *key, MacRec { port })
+    }
+
+    fn move_station(&mut self, key: &L2Key, from: Port, to: Port) -> Result<(), NoMemory>
+        requires there { at l2_cmp key.now self.old.macs ≡ Some (record { port = from }) }
+        requires apart { from ≢ to }
+        ensures ok { OnOk result (self.new ≡ record self.old { macs = put l2_cmp key.now (record { port = to }) self.old.macs }) }
+        ensures err { OnErr result (self.new ≡ self.old) }
+    {
+        self.stations.enter(Station {
+            port: to,
+            key: *key,
+        })?;
+        self.stations.leave(&Station {
+            port: from,
+            key: *key,
+        });
+        let _ = keyed::set(self.macs.as_mut_slice(), key, MacRec { port: to });
+        Ok(())
     }
 
     fn flip(&mut self, port: Port, up: bool)
