@@ -5,3 +5,9 @@ pub mod KeyOrder
 pub mod Rows
 pub mod Octets
 pub mod MacText
+pub mod Clients
+pub mod Address
+pub mod Cidr
+pub mod Prefix
+pub mod Hops
+pub mod Groups
