@@ -137,7 +137,7 @@ fn run<R: Threads + Wait + Sync>(
     script: &[u8],
     reads: (usize, &[u64]),
     writes: (usize, &[u64]),
-) -> Result<(Status, Vec<u8>), Fail> {
+) -> Result<(Status, Vec<u8>), NoMemory> {
     let mut words = Vec::new(alloc);
     words.push(String::from_str(alloc, "run")?)?;
     let mut source = MemSource::new(
@@ -277,5 +277,22 @@ fn an_error_line_is_cut_where_the_sink_fails(rt: HostRuntime) -> Result<(), Fail
     let (status, written) = run(&rt, rt.alloc(), b"limit 1\n", (16, &[]), (5, &[1]))?;
     assert_eq!(rt; status, Status::Script);
     assert_eq!(rt; written.as_slice(), b"error".as_slice());
+    Ok(())
+}
+
+// Where memory is refused, the answer is that, or the fault of a sink that could not grow. With
+// ample memory the whole report is written: each allocation of this test is refused in turn
+// outside the gate, the test's own among them, which it lets pass.
+#[test]
+fn refused_memory_is_told_as_such(rt: HostRuntime) -> Result<(), Fail> {
+    let Ok((status, written)) = run(&rt, rt.alloc(), ONE_PORT, (16, &[]), (16, &[])) else {
+        return Ok(());
+    };
+    match status {
+        Status::Done => assert_eq!(rt; written.as_slice(), ONE_PORT_REPORT),
+        Status::NoMemory => assert!(rt; written.is_empty()),
+        Status::WriteFault => assert!(rt; ONE_PORT_REPORT.starts_with(&written)),
+        _ => assert!(rt; false, "an answer that want of memory does not explain"),
+    }
     Ok(())
 }

@@ -8,7 +8,7 @@ use Rattle.net_types.specs.declared.table.Tables.{Tables}
 
 -- the tables without rows
 abbrev pub empty : Tables
-empty = record { l2 = [] }
+empty = record { l2 = []; host = []; group = []; route = [] }
 
 -- the rows that the tables hold, as what they mean: a row of l2 stands as it is
 abbrev pub view_of : Tables → Rows

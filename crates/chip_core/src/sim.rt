@@ -37,7 +37,7 @@ impl SimChip {
 }
 
 impl HwSwitch for SimChip {
-    ghost raw = { λ chip. record { l2 = chip.l2.items } };
+    ghost raw = { λ chip. record empty { l2 = chip.l2.items } };
 
     ghost caps = { λ chip. chip.caps };
 
@@ -67,6 +67,9 @@ impl HwSwitch for SimChip {
     fn copy_tables(&self, alloc: Global) -> Result<Tables, NoMemory> {
         Ok(Tables {
             l2: ItemList::from_vec(self.l2.to_vec(alloc)?),
+            host: ItemList::new(alloc),
+            group: ItemList::new(alloc),
+            route: ItemList::new(alloc),
         })
     }
 

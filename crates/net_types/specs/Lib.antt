@@ -1,3 +1,4 @@
+pub mod Bytes
 pub mod Range
 pub mod Unicast
 pub mod Names

@@ -1,15 +1,19 @@
 // Next hops of routes.
-ghost use Rattle.std.specs.Prelude.{◌≡◌, ◌↔◌, IfOk, length, slice_get, option_copied};
-ghost use Rattle.std.specs.Cmp.{partial_equiv_from_equiv};
-ghost use Rattle.std.specs.Cmp.Lexicographic.{pointwise};
+ghost use Rattle.std.specs.Prelude.{◌≡◌, ◌↔◌, IfOk, length, slice_get, option_copied, Some, refl};
+ghost use Rattle.std.specs.Cmp.{partial_equiv_from_equiv, po};
+ghost use Rattle.std.specs.Cmp.Lexicographic.{pointwise, slice_cmp};
+ghost use Rattle.std.specs.Hash as fed;
+ghost use Rattle.std.specs.Hash.{items_Alike, same_Alike};
 ghost use Rattle.std.specs.Ordering.{eq_by_cmp};
 ghost use Rattle.std.specs.List.{Contains};
 ghost use Rattle.std.specs.List.Sorted.{IsStrictlySortedBy};
 ghost use Rattle.keyed.specs.Keyed.{IsKeyOrder};
-ghost use Rattle.net_types.specs.Hops.{IsAscending, HaveSameHops, HasHopsOfEither, same_hops, hops_equivalence};
+ghost use Rattle.net_types.specs.Hops.{IsAscending, HaveSameHops, HasHopsOfEither, same_hops, hops_cmp, hops_order, hops_ties, hops_equivalence, hop_decides};
 
 use crate::{Intf, Ip, ItemList, NoMemory};
 use std::alloc::Global;
+use std::cmp::Ordering;
+use std::hash::{Hash, Hasher};
 use std::marker::Model;
 
 /// Where a route sends packets next: an ip, and the interface to reach it by where one is given.
@@ -95,6 +99,41 @@ impl Eq for HopSet {
     ghost laws = { hops_equivalence };
 }
 
+/// Sets are ordered by their first hops that differ, a set before its own extensions.
+impl PartialOrd for HopSet {
+    ghost partial_cmp = { λ x y. Some (hops_cmp x y) };
+
+    ghost laws = { po hops_order hops_ties };
+
+    fn partial_cmp(&self, other: &HopSet) -> Option<Ordering> {
+        Some(self.cmp(other))
+    }
+}
+
+impl Ord for HopSet {
+    ghost cmp = { hops_cmp };
+
+    ghost total = { hops_order };
+
+    ghost matches_partial_cmp = { λ _ _. refl };
+
+    ghost matches_eq = { hops_ties };
+
+    fn cmp(&self, other: &HopSet) -> Ordering {
+        compare_all(self.as_slice(), other.as_slice())
+    }
+}
+
+impl Hash for HopSet {
+    ghost hash_input = { fed.slice ⟦<Hop as Hash>⟧.hash_input };
+
+    ghost respects_eq = { (items_Alike (same_Alike ⟦<Hop as Hash>⟧.hash_input hop_decides)).fed };
+
+    fn hash<H: Hasher>(&self, state: &mut H) {
+        self.as_slice().hash(state);
+    }
+}
+
 /// The set of the hops of a vector.
 fn set_of(hops: Vec<Hop>) -> HopSet
     ensures ascending { IsAscending result }
@@ -120,4 +159,11 @@ fn are_same<T: Ord>(items: &[T], others: &[T]) -> bool
     ensures { result ≡ pointwise (eq_by_cmp T.cmp) items.now others.now }
 {
     items == others
+}
+
+/// The order of the two by their first items that differ.
+fn compare_all<T: Ord>(items: &[T], others: &[T]) -> Ordering
+    ensures { result ≡ slice_cmp T.cmp items.now others.now }
+{
+    items.cmp(&others)
 }

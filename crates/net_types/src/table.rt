@@ -90,4 +90,7 @@ pub type RouteRowList = ItemList<(RouteKey, RouteRow)>;
 #[derive(Debug, Drop)]
 pub struct Tables {
     pub l2: L2RowList,
+    pub host: HostRowList,
+    pub group: GroupRowList,
+    pub route: RouteRowList,
 }

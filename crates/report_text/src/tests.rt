@@ -89,6 +89,9 @@ fn an_empty_run(rt: HostRuntime) -> Result<(), Fail> {
     };
     let tables = Tables {
         l2: ItemList::new(alloc),
+        host: ItemList::new(alloc),
+        group: ItemList::new(alloc),
+        route: ItemList::new(alloc),
     };
     let text = report_bytes(
         alloc,
@@ -180,6 +183,9 @@ fn a_run_of_five_rounds(rt: HostRuntime) -> Result<(), Fail> {
     }
     let tables = Tables {
         l2: ItemList::from_vec([row(&rt, 1, 0x0200_0000_0001, 1, false)].to_vec(alloc)?),
+        host: ItemList::new(alloc),
+        group: ItemList::new(alloc),
+        route: ItemList::new(alloc),
     };
     let text = report_bytes(alloc, &head, 0, &rounds, &replies, &tables)?;
     assert_eq!(rt; str::from_utf8(text.as_slice())?, RUN_OF_FIVE);
@@ -292,6 +298,9 @@ fn rounds_of_several_entries(rt: HostRuntime) -> Result<(), Fail> {
     ];
     let tables = Tables {
         l2: ItemList::from_vec(rows.to_vec(alloc)?),
+        host: ItemList::new(alloc),
+        group: ItemList::new(alloc),
+        route: ItemList::new(alloc),
     };
     let replies = ItemList::from_vec(replies.to_vec(alloc)?);
     let text = report_bytes(alloc, &head, 9, &rounds, &replies, &tables)?;
