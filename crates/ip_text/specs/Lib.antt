@@ -1,0 +1,15 @@
+pub mod Place
+pub mod Reads
+pub mod Numerals
+pub mod Ipv4
+pub mod Ipv6
+pub mod AddressText
+pub mod Printed
+pub mod Scans
+pub mod Parts
+pub mod Unread
+pub mod Rows
+pub mod Runs
+pub mod Extends
+pub mod RoundTrip
+pub mod Values

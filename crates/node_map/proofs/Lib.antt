@@ -1,0 +1,9 @@
+pub mod Following
+pub mod Kept
+pub mod Later
+pub mod Links
+pub mod Order
+pub mod Paths
+pub mod Places
+pub mod Shapes
+pub mod Trees
