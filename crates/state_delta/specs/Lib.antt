@@ -1,0 +1,4 @@
+pub mod Change
+pub mod Cut
+pub mod Delta
+pub mod Sides
