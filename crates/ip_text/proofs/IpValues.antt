@@ -1,5 +1,5 @@
 -- The functions of texts with an ip in front give a value exactly where the form spells it.
-use Rattle.std.proofs.Common.{◌≡◌, ◌+◌, ◌*◌, length, length-append, ◌==◌, ℕ, Option, Some, None, List, [], ◌∷◌, ◌++◌, Bool, true, false, cond, refl, sym, ap, subst, ◌∙◌, arith, inl, inr, ◌⊎◌}
+use Rattle.std.proofs.Common.{◌≡◌, ◌==◌, ℕ, Option, Some, None, List, [], ◌∷◌, ◌++◌, Bool, true, false, cond, refl, sym, ap, subst, ◌∙◌, arith, inl, inr, ◌⊎◌}
 use Rattle.std.specs.Prelude.{option_map, option_and_then}
 use Rattle.std.specs.Option.{option_or}
 use Rattle.std.proofs.lemmas.List.{append-nil}
@@ -11,7 +11,7 @@ use Rattle.net_types.specs.Address.{ip_width}
 use Rattle.net_types.specs.Cidr.{Cidr}
 use Rattle.net_types.specs.Prefix.{host_bits}
 use Rattle.ip_text.specs.Place.{CanBegin}
-use Rattle.ip_text.specs.Numerals.{IsHex, IsNumber, Joined}
+use Rattle.ip_text.specs.Numerals.{IsHex, IsNumber}
 use Rattle.ip_text.specs.Ipv6.{IsIpv6}
 use Rattle.ip_text.specs.AddressText.{IsIp, IsAddr, IsPrefix, IsMac, IsHop, IsHopBy}
 use Rattle.ip_text.specs.Values.{Computes, number_of, hex_of, quad_of, ipv6_of, ip_of, cut_at, cidr_of, addr_of, prefix_of, mac_of, hop_to, hop_by, hop_of}
@@ -152,15 +152,3 @@ hop_computes = record {
   spells = λ a text e. hop_spells text (cut_at 64 text) a refl e;
   found = λ a text is. hop_found a.ip a.intf text is;
 }
-
-pairs_length : (v : ℕ) (vs t : List ℕ) → Joined (IsHex 2 2) 58 (v ∷ vs) t → length t ≡ 2 + 3 * length vs
-pairs_length v [] t is = omega (arith, is.enough, is.short)
-pairs_length v (w ∷ ws) t is = omega (arith, is.2.enough, is.2.short, pairs_length w ws is.1 is.3, ap length is.4, length-append is.0 (58 ∷ is.1))
-
-row_length : (parts t : List ℕ) → length parts ≡ 6 → Joined (IsHex 2 2) 58 parts t → length t ≡ 17
-row_length [] t six is = absurd (omega arith)
-row_length (v ∷ vs) t six is = omega (arith, pairs_length v vs t is)
-
--- each text of a MAC has 17 bytes
-pub mac_length : (mac : ℕ) (t : List ℕ) → IsMac mac t → length t ≡ 17
-mac_length mac t is = row_length is.parts t is.number is.joined

@@ -4,8 +4,6 @@ pub mod Unicast
 pub mod Names
 pub mod KeyOrder
 pub mod Rows
-pub mod Octets
-pub mod MacText
 pub mod Clients
 pub mod Address
 pub mod Cidr

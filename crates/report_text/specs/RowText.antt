@@ -3,7 +3,7 @@ use Rattle.std.specs.Prelude.{ℕ, Bool, List, [], ◌∷◌, ◌++◌, codes, i
 use Rattle.std.specs.Fmt.{decimal}
 use Rattle.net_types.specs.declared.table.L2Key.{L2Key}
 use Rattle.net_types.specs.declared.table.L2Row.{L2Row}
-use Rattle.net_types.specs.MacText.{mac_text}
+use Rattle.ip_text.specs.Printed.{mac_text}
 
 abbrev pub up_text : Bool → List ℕ
 up_text up = if up then codes "up" else codes "down"

@@ -1,7 +1,7 @@
 -- Updates as they are printed.
 use Rattle.std.specs.Prelude.{ℕ, List, [], ◌++◌, codes, if◌then◌else◌}
 use Rattle.std.specs.Fmt.{decimal}
-use Rattle.net_types.specs.MacText.{mac_text}
+use Rattle.ip_text.specs.Printed.{mac_text}
 use Rattle.switch_model.specs.declared.act.Act.{Act}
 use Rattle.switch_model.specs.declared.act.Act.TheVariants.{VlanAdd, PortAdd, PortUp, PortDown, MacSet}
 use Rattle.switch_model.specs.declared.act.Update.{Update}

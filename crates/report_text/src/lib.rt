@@ -12,7 +12,6 @@ mod update;
 mod words;
 
 pub use head::ReportHead;
-pub use mac::printed_macs_are_read;
 pub use report::report_bytes;
 pub use update::write_update;
 

@@ -1,6 +1,6 @@
 // MAC addresses, as they are printed.
-ghost use Rattle.std.specs.Prelude.{ℕ, ◌≡◌, ◌<◌, ◌^◌, Some};
-ghost use Rattle.net_types.specs.MacText.{IsMacText, pair_text, mac_text};
+ghost use Rattle.std.specs.Prelude.{Some};
+ghost use Rattle.ip_text.specs.Printed.{pair_text, mac_text};
 
 use net_types::Mac;
 use std::fmt;
@@ -37,8 +37,3 @@ impl fmt::Display for MacText {
         write!(f, "{a}:{b}:{c}:{d}:{e}:{last}")
     }
 }
-
-/// A MAC as it is printed is a text from which that MAC is read.
-pub fn printed_macs_are_read()
-    ensures { (mac : ℕ) → mac < 2 ^ 48 → IsMacText mac (mac_text mac) }
-{}

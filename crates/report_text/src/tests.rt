@@ -318,6 +318,5 @@ fn an_update_behind_a_text(rt: HostRuntime) -> Result<(), Fail> {
     };
     write_update(&mut out, &update)?;
     assert_eq!(rt; out.as_str(), "3 alone vlan add 12 b");
-    printed_macs_are_read();
     Ok(())
 }

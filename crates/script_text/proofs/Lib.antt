@@ -3,7 +3,6 @@ mod Steps
 mod Numbers
 mod Forms
 mod Fields
-mod Octets
 mod MacLaws
 mod ActLaws
 mod WholeLaws

@@ -1,10 +1,10 @@
 -- How a script is read from left to right: each reader gives the value at the front of the bytes, and the bytes after it.
-use Rattle.std.specs.Prelude.{ℕ, ◌≤◌, ◌+◌, ◌-◌, ◌*◌, ◌==◌, ◌&&◌, nat_le, nat_lt, Bool, false, List, [], ◌∷◌, Option, Some, None, option_map, codes, if◌then◌else◌}
+use Rattle.std.specs.Prelude.{ℕ, ◌≤◌, ◌+◌, ◌-◌, ◌*◌, ◌==◌, ◌&&◌, nat_le, nat_lt, Bool, false, List, [], ◌∷◌, take, drop, Option, Some, None, option_map, codes, if◌then◌else◌}
 use Rattle.std.specs.Char.{is_ascii_digit}
 use Rattle.std.specs.Str.{all_ascii_digits}
 use Rattle.net_types.specs.declared.table.Caps.{Caps}
 use Rattle.net_types.specs.Names.{is_vlan_name}
-use Rattle.net_types.specs.MacText.{hex_value}
+use Rattle.ip_text.specs.Values.{mac_of}
 use Rattle.switch_model.specs.declared.act.Act.{Act}
 use Rattle.switch_model.specs.declared.act.Act.TheVariants.{VlanAdd, PortAdd, PortUp, PortDown, MacSet}
 use Rattle.script_text.specs.declared.script.Line.{Line}
@@ -63,32 +63,9 @@ name_at bytes = do
   word ← cut 10 bytes
   if is_vlan_name word.0 then Some word else None
 
--- an octet in two digits
-unfoldable pub octet_at : List ℕ → Option (ℕ × List ℕ)
-octet_at [] = None
-octet_at (a ∷ []) = None
-octet_at (a ∷ b ∷ rest) = do
-  high ← hex_value a
-  low ← hex_value b
-  Some (16 * high + low, rest)
-
--- three octets with colons between them
-unfoldable pub half_mac_at : List ℕ → Option (ℕ × List ℕ)
-half_mac_at bytes = do
-  first ← octet_at bytes
-  rest ← after (codes ":") first.1
-  second ← octet_at rest
-  rest ← after (codes ":") second.1
-  third ← octet_at rest
-  Some (65536 * first.0 + 256 * second.0 + third.0, third.1)
-
--- six octets with colons between them, in two halves
+-- a MAC address, whose texts have 17 bytes
 unfoldable pub mac_at : List ℕ → Option (ℕ × List ℕ)
-mac_at bytes = do
-  high ← half_mac_at bytes
-  rest ← after (codes ":") high.1
-  low ← half_mac_at rest
-  Some (16777216 * high.0 + low.0, low.1)
+mac_at bytes = option_map (λ mac. (mac, drop 17 bytes)) (mac_of (take 17 bytes))
 
 -- the rest of a line behind `vlan add `
 unfoldable pub vlan_add_at : List ℕ → Option (Act × List ℕ)

@@ -4,7 +4,7 @@ use Rattle.std.specs.Fmt.{decimal}
 use Rattle.net_types.specs.declared.table.Caps.{Caps}
 use Rattle.net_types.specs.Range.{IsPort, IsVlan}
 use Rattle.net_types.specs.Names.{is_vlan_name}
-use Rattle.net_types.specs.MacText.{IsMacText}
+use Rattle.ip_text.specs.AddressText.{IsMac}
 use Rattle.switch_model.specs.declared.act.Act.{Act}
 use Rattle.switch_model.specs.declared.act.Act.TheVariants.{VlanAdd, PortAdd, PortUp, PortDown, MacSet}
 use Rattle.script_text.specs.declared.script.Line.{Line}
@@ -17,7 +17,7 @@ IsActText (PortAdd port vlan) text = IsPort port × IsVlan vlan × (text ≡ cod
 IsActText (PortUp port) text = IsPort port × (text ≡ codes "port up " ++ decimal port)
 IsActText (PortDown port) text = IsPort port × (text ≡ codes "port down " ++ decimal port)
 IsActText (MacSet vlan mac port) text =
-    IsVlan vlan × IsPort port × (m : List ℕ) × IsMacText mac m × (text ≡ codes "mac set " ++ (decimal vlan ++ (codes " " ++ (m ++ (codes " " ++ decimal port)))))
+    IsVlan vlan × IsPort port × (m : List ℕ) × IsMac mac m × (text ≡ codes "mac set " ++ (decimal vlan ++ (codes " " ++ (m ++ (codes " " ++ decimal port)))))
 
 -- the caller's number, which is 0, and an update that isn't marked `alone`
 abbrev pub IsLine : Line → List ℕ → Type 0

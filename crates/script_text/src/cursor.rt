@@ -1,8 +1,9 @@
 // A place in the script, which moves over what is read there.
 ghost use Rattle.std.specs.Prelude.{◌≡◌, ◌<◌, ◌^◌, ◌==◌, option_map, length, IfNone, IfOk, IfSome};
-ghost use Rattle.script_text.specs.Reading.{IsBetween, after, number_at, name_at, octet_at, half_mac_at, mac_at};
+ghost use Rattle.script_text.specs.Reading.{IsBetween, after, number_at, name_at, mac_at};
 
-use crate::digits::{cut, hex_value, number_of};
+use crate::digits::{cut, number_of};
+use ip_text::read_mac;
 use net_types::{Mac, NoMemory, Port, Vlan, VlanName};
 use std::alloc::Global;
 use std::marker::Model;
@@ -82,44 +83,16 @@ impl<'a> Cursor<'a> {
         VlanName::of(alloc, word)
     }
 
-    /// A MAC address: six octets, joined by colons.
+    /// A MAC address, whose texts have 17 bytes.
     #[tactic(auto, unfolding(crate::specs::Reading::mac_at))]
     pub fn mac(&mut self) -> Option<Mac>
         ensures { option_map (λ mac. (mac, self.new)) result ≡ mac_at self.old }
     {
-        let high = self.half_mac()?;
-        self.text(b":")?;
-        let low = self.half_mac()?;
-        Mac::new((high << 24) + low)
-    }
-
-    /// Three octets, joined by colons, as one number with the first octet highest.
-    #[tactic(auto, unfolding(crate::specs::Reading::half_mac_at))]
-    fn half_mac(&mut self) -> Option<u64>
-        ensures value { option_map (λ half. (half, self.new)) result ≡ half_mac_at self.old }
-        ensures range { IfSome result (λ half. half < 2 ^ 24) }
-    {
-        let first = self.octet()?;
-        self.text(b":")?;
-        let second = self.octet()?;
-        self.text(b":")?;
-        let third = self.octet()?;
-        Some((first << 16) + (second << 8) + third)
-    }
-
-    /// An octet in two hexadecimal digits.
-    #[tactic(auto, unfolding(crate::specs::Reading::octet_at))]
-    fn octet(&mut self) -> Option<u64>
-        ensures value { option_map (λ octet. (octet, self.new)) result ≡ octet_at self.old }
-        ensures range { IfSome result (λ octet. octet < 256) }
-    {
-        let [high, low, rest @ ..] = self.rest else {
+        let Some((text, rest)) = self.rest.split_at_checked(17) else {
             return None;
         };
         self.rest = rest;
-        let high = hex_value(*high)?;
-        let low = hex_value(*low)?;
-        Some(16 * high + low)
+        read_mac(text).ok()
     }
 }
 

@@ -1,7 +1,6 @@
 // Words of digits.
 ghost use Rattle.std.specs.Prelude.{◌≡◌, ◌<◌, ◌≤◌, ◌^◌, true, option_map, SomeIff, IfSome};
 ghost use Rattle.std.specs.Str.{all_ascii_digits};
-ghost use Rattle.net_types.specs.MacText.{hex_value};
 ghost use Rattle.script_text.specs.Reading.{IsBetween, cut, is_numeral, read_on, number_of};
 
 /// The bytes before the first end, and those after it.
@@ -65,17 +64,4 @@ fn value_of(word: &[u8], high: u64) -> Option<u64>
         }
     }
     Some(value)
-}
-
-/// The value of a hexadecimal digit, of either case.
-pub fn hex_value(digit: u8) -> Option<u64>
-    ensures value { result ≡ hex_value digit }
-    ensures range { IfSome result (λ value. value < 16) }
-{
-    match digit {
-        b'0'..=b'9' => Some(u64::from(digit - b'0')),
-        b'a'..=b'f' => Some(u64::from(digit - b'a') + 10),
-        b'A'..=b'F' => Some(u64::from(digit - b'A') + 10),
-        _ => None,
-    }
 }

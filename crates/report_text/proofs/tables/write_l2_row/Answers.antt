@@ -1,7 +1,7 @@
 use Rattle.std.proofs.Common.{◌++◌, codes, [], ◌∷◌}
 use Rattle.std.specs.Fmt.{decimal}
 use Rattle.std.specs.String.{string_bytes}
-use Rattle.net_types.specs.MacText.{mac_text}
+use Rattle.ip_text.specs.Printed.{mac_text}
 use Rattle.report_text.specs.RowText.{l2_text}
 use Rattle.report_text.proofs.Writes.{writes}
 use Rattle.report_text.proofs.tables.write_l2_row.Goals as goal
