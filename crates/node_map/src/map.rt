@@ -57,7 +57,7 @@ impl<T> NodeMap<T> {
     pub fn walk(&self) -> Walk<'_, T>
         ensures { result ≡ self.now.entries }
     {
-        Walk::new(&self.root)
+        Walk::new(self.root())
     }
 
     /// The root of the tree, for walks that pass over what two maps share.

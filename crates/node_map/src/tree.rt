@@ -22,15 +22,15 @@ pub(crate) enum Shape<T> {
     Branch(u64, Arc<Tree<T>>, Arc<Tree<T>>),
 }
 
-/// A node of a map's tree, with all that stands below it. Its place are the keys that agree with its
-/// mark but for their lowest `width` bits: a leaf's mark is its key, and a branch's is its split, the
-/// first key of its right half.
+/// A node of a map's tree, with all that stands below it. Its place is the keys that differ from its
+/// mark in their lowest `width` bits alone: a leaf's mark is its key, and a branch's is its split,
+/// the first key of its right half.
 #[cycle(tree)]
 #[derive(Drop)]
 pub struct Tree<T> {
     mark: NodeKey,
-    width: u8,
     shape: Shape<T>,
+    width: u8,
 }
 
 impl<T> Model for Tree<T> {
@@ -55,8 +55,8 @@ impl<T> Model for Tree<T> {
 /// of the right one.
 #[derive(Drop)]
 pub enum Arms<'a, T> {
-    Leaf(NodeKey, &'a Node<T>),
-    Branch(NodeKey, &'a Tree<T>, &'a Tree<T>),
+    Leaf(&'a NodeKey, &'a Node<T>),
+    Branch(&'a NodeKey, &'a Tree<T>, &'a Tree<T>),
 }
 
 impl<T> Tree<T> {
@@ -103,12 +103,13 @@ impl<T> Tree<T> {
         }
     }
 
+    /// The entry of a leaf, or the halves of a branch.
     pub fn arms(&self) -> Arms<'_, T>
         ensures { IsArms self.now result }
     {
         match &self.shape {
-            Shape::Leaf(node) => Arms::Leaf(self.mark, node),
-            Shape::Branch(_, left, right) => Arms::Branch(self.mark, left, right),
+            Shape::Leaf(node) => Arms::Leaf(&self.mark, node),
+            Shape::Branch(_, left, right) => Arms::Branch(&self.mark, left, right),
         }
     }
 
@@ -134,7 +135,7 @@ impl<T> Tree<T> {
     }
 
     /// The first entry past the last key that was seen, or the first one where none was.
-    pub fn next<'a>(&'a self, last: &Option<NodeKey>) -> Option<(&'a NodeKey, &'a Node<T>)>
+    pub fn entry_past<'a>(&'a self, last: &Option<NodeKey>) -> Option<(&'a NodeKey, &'a Node<T>)>
         ensures { option_map (λ e. (e.0.now, e.1.now)) result ≡ first_of (later last.now self.now.entries) }
     {
         match last {
@@ -206,8 +207,8 @@ pub(crate) fn leaf<T: Drop>(
 {
     let tree = Tree {
         mark: key,
-        width: 0,
         shape: Shape::Leaf(node),
+        width: 0,
     };
     Ok(Arc::new(forge.alloc(), tree)?)
 }
@@ -224,8 +225,8 @@ fn branch<T: Drop>(
 {
     let tree = Tree {
         mark: fork.split,
-        width: fork.width,
         shape: Shape::Branch(forge.version(), left, right),
+        width: fork.width,
     };
     Ok(Arc::new(forge.alloc(), tree)?)
 }

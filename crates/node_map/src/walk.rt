@@ -1,55 +1,95 @@
 // The entries of a map in order.
-ghost use Rattle.std.specs.Prelude.{◌≡◌};
-ghost use Rattle.std.specs.Option.{option_map};
+ghost use Rattle.std.specs.Prelude.{◌≡◌, ◌≤◌, ◌∷◌, ◌++◌, None, replicate};
 ghost use Rattle.node_map.specs.Map.{link_entries, IsSoundLink};
-ghost use Rattle.node_map.specs.Steps.{first_of, later};
+ghost use Rattle.node_map.specs.Pending.{AreSlots, IsNarrow, IsTaken, pending_entries, slot_entries};
 
-use crate::tree::Tree;
+use crate::tree::{Arms, Tree};
 use node_core::Node;
 use node_key::NodeKey;
 use std::marker::Model;
 use std::sync::Arc;
 
-/// The entries that are left. Each step looks for the first key above the last one, so a walk needs
-/// no memory.
+// One more than the most bits that a place may leave open.
+const SLOTS: usize = 193;
+
+/// The entries that are left. It keeps the right halves that are still to be met on the way to the
+/// next entry, each at the width of its place, so a walk takes no memory and goes down each link once.
 #[derive(Drop)]
 pub struct Walk<'a, T> {
-    root: &'a Option<Arc<Tree<T>>>,
-    last: Option<NodeKey>,
+    pending: [Option<&'a Tree<T>>; SLOTS],
+    from: usize,
 }
 
 impl<'a, T> Model for Walk<'a, T> {
-    ghost use Rattle.std.specs.Ordering.{nat_cmp};
-    ghost use Rattle.keyed.specs.Keyed.{Ascends};
-    ghost use Rattle.node_map.specs.Map.{link_entries};
-    ghost use Rattle.node_map.specs.Steps.{later};
     ghost use Rattle.node_map.specs.TreeNode.{Entries};
+    ghost use Rattle.node_map.specs.Pending.{AreSlots, pending_entries};
 
     ghost Value = { Entries T };
 
-    ghost view = { λ w. later w.last (link_entries w.root.now) };
+    ghost view = { λ w. pending_entries w.pending };
 
-    ghost invariant = { λ w. Ascends nat_cmp (link_entries w.root.now) };
+    ghost invariant = { λ w. AreSlots w.from w.pending };
+}
+
+// Puts the tree into the last slot.
+fn keep_root<'a, T>(pending: &mut [Option<&'a Tree<T>>], root: Option<&'a Tree<T>>)
+    requires empty { pending.old ≡ replicate 193 None }
+    requires narrow { IsNarrow 192 root }
+    ensures slots { AreSlots 192 pending.new }
+    ensures entries { pending_entries pending.new ≡ slot_entries root.entry }
+{
+    pending[SLOTS - 1] = root;
 }
 
 impl<'a, T> Walk<'a, T> {
-    pub(crate) fn new(root: &'a Option<Arc<Tree<T>>>) -> Walk<'a, T>
-        requires { IsSoundLink root.now }
-        ensures { result ≡ link_entries root.now }
+    pub(crate) fn new(root: Option<&'a Tree<T>>) -> Walk<'a, T>
+        requires { IsNarrow 192 root }
+        ensures { result ≡ slot_entries root.entry }
     {
-        Walk { root, last: None }
+        let mut pending = [None; SLOTS];
+        keep_root(&mut pending, root);
+        Walk {
+            pending,
+            from: SLOTS - 1,
+        }
     }
 }
 
-fn next_entry<'a, T>(
-    root: &'a Option<Arc<Tree<T>>>,
-    last: &Option<NodeKey>,
-) -> Option<(&'a NodeKey, &'a Node<T>)>
-    ensures { option_map (λ e. (e.0.now, e.1.now)) result ≡ first_of (later last.now (link_entries root.now)) }
+// Takes the tree out of the first slot from there on that isn't empty, with the slot's number.
+fn take_next<'a, T>(
+    pending: &mut [Option<&'a Tree<T>>],
+    from: usize,
+) -> Option<(usize, &'a Tree<T>)>
+    requires { AreSlots from pending.old }
+    ensures { IsTaken from pending.old pending.new result }
 {
-    match root {
-        None => None,
-        Some(tree) => tree.next(last),
+    for at in from..SLOTS {
+        if let Some(tree) = pending[at] {
+            pending[at] = None;
+            return Some((at, tree));
+        }
+    }
+    None
+}
+
+// Goes down to the first entry of the tree, and keeps what is to be met after it.
+fn first_entry<'a, T>(
+    pending: &mut [Option<&'a Tree<T>>],
+    tree: &'a Tree<T>,
+    from: usize,
+) -> (&'a NodeKey, &'a Node<T>, usize)
+    requires slots { AreSlots from pending.old }
+    requires narrow { tree.now.width ≤ from }
+    ensures slots { AreSlots result.2 pending.new }
+    ensures entries { (result.0.now, result.1.now) ∷ pending_entries pending.new ≡ tree.now.entries ++ pending_entries pending.old }
+{
+    match tree.arms() {
+        Arms::Leaf(key, node) => (key, node, from),
+        Arms::Branch(_, left, right) => {
+            let at = usize::from(tree.width() - 1);
+            pending[at] = Some(right);
+            first_entry(pending, left, at)
+        }
     }
 }
 
@@ -63,14 +103,10 @@ impl<'a, T> Iterator for Walk<'a, T> {
     ghost remaining = { item_count (λ left. left) };
 
     fn next(&mut self) -> Option<(&'a NodeKey, &'a Node<T>)> {
-        let root = self.root;
-        match next_entry(root, &self.last) {
-            None => None,
-            Some(entry) => {
-                let (key, node) = entry;
-                self.last = Some(*key);
-                Some((key, node))
-            }
-        }
+        let from = self.from;
+        let (at, tree) = take_next(&mut self.pending, from)?;
+        let (key, node, from) = first_entry(&mut self.pending, tree, at);
+        self.from = from;
+        Some((key, node))
     }
 }

@@ -26,7 +26,7 @@ fn first_removed<'a, T>(tree: &'a Tree<T>, last: &Option<NodeKey>) -> Option<Cha
     ensures { IsNext last.now (λ k. change_of (at nat_cmp k tree.now.entries) None) (option_map seen result) }
 {
     tree.sound();
-    match tree.next(last) {
+    match tree.entry_past(last) {
         None => None,
         Some((key, node)) => Some(Change {
             key: *key,
@@ -42,7 +42,7 @@ fn first_added<'a, T>(tree: &'a Tree<T>, last: &Option<NodeKey>) -> Option<Chang
     ensures { IsNext last.now (λ k. change_of None (at nat_cmp k tree.now.entries)) (option_map seen result) }
 {
     tree.sound();
-    match tree.next(last) {
+    match tree.entry_past(last) {
         None => None,
         Some((key, node)) => Some(Change {
             key: *key,
