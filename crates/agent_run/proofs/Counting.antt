@@ -18,7 +18,9 @@ use Rattle.net_types.specs.declared.table.L2Row.{L2Row}
 use Rattle.switch_model.specs.declared.record.MacRec.{MacRec}
 use Rattle.switch_model.specs.PlainState.{PlainState, port_at}
 use Rattle.switch_model.specs.Rows.{is_up, l2_row, rows}
+use Rattle.agent_run.specs.Kept.{IsBare}
 use Rattle.agent_run.specs.Changed.{is_row, is_changed, changed}
+use Rattle.agent_run.proofs.BareLaws.{l2_rows}
 use Rattle.agent_run.proofs.RowLaws.{programmed, flipped, row_there, row_other}
 
 -- each of the entries stands among those before
@@ -63,13 +65,13 @@ put_counted before k row (e ∷ es) h = by_order (l2_cmp k e.0)
     (λ o. rw o (first_counted before (k, row) es (rest_stand before e es h)))
     (λ o. rw o (rw (not_changed before e (h e (0, (omega arith, refl)))) (put_counted before k row es (rest_stand before e es h))))
 
-pub changed_put : (before : Rows) (k : L2Key) (row : L2Row) → Ascends l2_cmp before.l2 → changed before (record { l2 = put l2_cmp k row before.l2 }) ≡ (if is_row row (at l2_cmp k before.l2) then 0 else 1)
+pub changed_put : (before : Rows) (k : L2Key) (row : L2Row) → Ascends l2_cmp before.l2 → changed before (l2_rows (put l2_cmp k row before.l2)) ≡ (if is_row row (at l2_cmp k before.l2) then 0 else 1)
 changed_put before k row asc = put_counted before k row before.l2 (all_stand before asc)
 
-pub changed_set : (m : PlainState) (key : L2Key) (port : ℕ) (up : Bool) (raw : Tables) (caps : Caps) → IsChip caps raw → view_of raw ≡ rows m → up ≡ is_up (port_at m port) → changed (rows m) (rows (record m { macs = put l2_cmp key (record { port = port }) m.macs })) ≡ (if is_row (record { port = port; up = up }) (at l2_cmp key raw.l2) then 0 else 1)
-changed_set m key port up raw caps chip in_step is =
+pub changed_set : (m : PlainState) (key : L2Key) (port : ℕ) (up : Bool) (raw : Tables) (caps : Caps) → IsBare m → IsChip caps raw → view_of raw ≡ rows m → up ≡ is_up (port_at m port) → changed (rows m) (rows (record m { macs = put l2_cmp key (record { port = port }) m.macs })) ≡ (if is_row (record { port = port; up = up }) (at l2_cmp key raw.l2) then 0 else 1)
+changed_set m key port up raw caps bare chip in_step is =
     let row : L2Row = record { port = port; up = up } in
-    ap (changed (rows m)) (sym (programmed m key port up raw (record raw { l2 = put l2_cmp key row raw.l2 }) in_step is refl)) ∙ ap (λ (r : Rows). changed r (record { l2 = put l2_cmp key row raw.l2 })) (sym in_step) ∙ changed_put (view_of raw) key row chip.l2
+    ap (changed (rows m)) (sym (programmed m key port up raw (record raw { l2 = put l2_cmp key row raw.l2 }) bare in_step is refl)) ∙ ap (λ (r : Rows). changed r (l2_rows (put l2_cmp key row raw.l2))) (sym in_step) ∙ changed_put (view_of raw) key row chip.rows.keys.l2
 
 -- a row in the place of another one
 pub one_replaced : (row old : L2Row) (o : Option L2Row) → Some old ≡ o → false ≡ (eqb old.port row.port && beq old.up row.up) → ◌≡◌ {A = ℕ} (if is_row row o then 0 else 1) 1
@@ -79,7 +81,7 @@ one_replaced row old o is other =
 
 -- what stays the same isn't written
 pub none_written : (raw : Tables) (caps : Caps) (before after : Rows) (now : ℕ) → IsChip caps raw → view_of raw ≡ before → view_of raw ≡ after → now ≡ now + changed before after
-none_written raw caps before after now chip is still = omega (arith, ap (changed before) (sym still) ∙ ap (λ (r : Rows). changed r (view_of raw)) (sym is) ∙ changed_none (view_of raw) chip.l2)
+none_written raw caps before after now chip is still = omega (arith, ap (changed before) (sym still) ∙ ap (λ (r : Rows). changed r (view_of raw)) (sym is) ∙ changed_none (view_of raw) chip.rows.keys.l2)
 
 pub one_written : {A E : Type 0} (r : Result A E) (now next n : ℕ) → next ≡ (if is_ok r then now + 1 else now) → n ≡ 1 → OnOk r (next ≡ now + n)
 one_written (Ok x) now next n step one = omega arith

@@ -4,6 +4,7 @@ use Rattle.net_types.specs.declared.table.Caps.{Caps}
 use Rattle.net_types.specs.declared.table.Tables.{Tables}
 use Rattle.chip_core.specs.Chip.{view_of}
 use Rattle.script_text.specs.declared.script.Line.{Line}
+use Rattle.script_text.specs.Script.{IsServed}
 use Rattle.switch_model.specs.declared.act.Submission.{Submission}
 use Rattle.switch_model.specs.declared.journal.Round.{Round}
 use Rattle.switch_model.specs.declared.reply.Reply.{Reply}
@@ -13,21 +14,22 @@ use Rattle.switch_model.specs.Rows.{rows}
 use Rattle.switch_model.specs.Journal.{entries_of, after_verdict, fold, version_of, with_round}
 use Rattle.agent_run.specs.Solo.{Course, submission, step}
 use Rattle.agent_run.specs.Single.{verdict_on, version_by, single, single_reply, IsPlain, IsCourse}
-use Rattle.agent_run.specs.Kept.{journal_of, course_now, IsKept}
+use Rattle.agent_run.specs.Kept.{journal_of, course_now, IsKept, IsBare}
+use Rattle.agent_run.proofs.BareLaws.{bare_after}
 use Rattle.agent_run.proofs.JournalLaws.{strip_push, length-strip}
 use Rattle.agent_run.proofs.SettledLaws.{single_state, single_version, single_count, version_by_one}
 use Rattle.agent_run.proofs.SoloLaws.{own_number, step_settles, step_refuses, step_kept, started_kept}
 
 -- at a cold start
 pub kept_start : (caps : Caps) (raw : Tables) → view_of raw ≡ rows empty → IsKept empty 0 0 [] raw caps
-kept_start caps raw in_step = record { state_is = refl; version_is = refl; settled_is = refl; version_small = omega arith; in_step = in_step }
+kept_start caps raw in_step = record { state_is = refl; version_is = refl; settled_is = refl; version_small = omega arith; in_step = in_step; bare = (refl, refl, refl) }
 
 pub course_start : (limit : ℕ) (caps : Caps) → IsCourse limit (course_now caps [] [])
 course_start limit caps = started_kept limit caps
 
 -- one submission is settled by itself
-pub kept_single : (m : PlainState) (v settled : ℕ) (rounds : List Round) (raw : Tables) (caps : Caps) (s : Submission) (m' : PlainState) (v' settled' : ℕ) (rounds' : List Round) (raw' : Tables) → IsKept m v settled rounds raw caps → m' ≡ after_verdict m s.update (verdict_on m caps s.update) → v' ≡ version_by v (verdict_on m caps s.update) → settled' ≡ settled + 1 → rounds' ≡ rounds ++ single m v caps s ∷ [] → view_of raw' ≡ rows m' → IsKept m' v' settled' rounds' raw' caps
-kept_single m v settled rounds raw caps s m' v' settled' rounds' raw' kept state version count more in_step =
+pub kept_single : (m : PlainState) (v settled : ℕ) (rounds : List Round) (raw : Tables) (caps : Caps) (s : Submission) (m' : PlainState) (v' settled' : ℕ) (rounds' : List Round) (raw' : Tables) → IsServed s.update.act → IsKept m v settled rounds raw caps → m' ≡ after_verdict m s.update (verdict_on m caps s.update) → v' ≡ version_by v (verdict_on m caps s.update) → settled' ≡ settled + 1 → rounds' ≡ rounds ++ single m v caps s ∷ [] → view_of raw' ≡ rows m' → IsKept m' v' settled' rounds' raw' caps
+kept_single m v settled rounds raw caps s m' v' settled' rounds' raw' served kept state version count more in_step =
     let j = journal_of caps rounds in
     let raised : version_by v (verdict_on m caps s.update) ≤ v + 1 = version_by_one v (verdict_on m caps s.update) in
     record {
@@ -36,6 +38,7 @@ kept_single m v settled rounds raw caps s m' v' settled' rounds' raw' kept state
       settled_is = count ∙ ap (λ (n : ℕ). n + 1) kept.settled_is ∙ sym (single_count j m v caps s) ∙ ap (λ (rs : List Round). length (entries_of rs)) (sym more);
       version_small = omega (arith, raised, version, count, kept.version_small);
       in_step = in_step;
+      bare = subst IsBare (sym state) (bare_after m s.update (verdict_on m caps s.update) served kept.bare);
     }
 
 -- a line within the limit is taken

@@ -1,3 +1,4 @@
+mod BareLaws
 mod Counting
 mod FlipLaws
 mod IndexLaws

@@ -1,10 +1,9 @@
 -- How a run of one submission is settled.
-use Rattle.std.proofs.Common.{◌≡◌, ◌≢◌, ◌≤◌, ◌+◌, ℕ, Bool, false, cond, nat_lt, is_none, Option, Some, None, List, [], ◌∷◌, length, refl, sym, ap, ap₂, subst, ◌∙◌, arith}
+use Rattle.std.proofs.Common.{◌≡◌, ◌≢◌, ◌≤◌, ◌+◌, ℕ, Bool, false, cond, is_none, Option, Some, None, List, [], ◌∷◌, length, refl, sym, ap, ap₂, subst, ◌∙◌, arith}
 use Rattle.std.proofs.lemmas.List.{length_push}
-use Rattle.std.proofs.lemmas.Bool.{cond-false, le-ltb}
+use Rattle.std.proofs.lemmas.Bool.{le-ltb}
 use Rattle.net_types.specs.declared.table.Caps.{Caps}
 use Rattle.net_types.specs.declared.table.Table.{Table}
-use Rattle.net_types.specs.declared.table.Table.TheVariants.{L2}
 use Rattle.switch_model.specs.declared.act.Submission.{Submission}
 use Rattle.switch_model.specs.declared.journal.RoundKind.TheVariants.{Whole, One}
 use Rattle.switch_model.specs.declared.verdict.Reason.{Reason}
@@ -14,16 +13,17 @@ use Rattle.switch_model.specs.PlainState.{PlainState, empty}
 use Rattle.switch_model.specs.Reason.{reason}
 use Rattle.switch_model.specs.Effect.{effect}
 use Rattle.switch_model.specs.Rows.{rows}
-use Rattle.switch_model.specs.Capacity.{over, Fits}
+use Rattle.net_types.specs.Capacity.{over, Fits}
 use Rattle.switch_model.specs.Journal.{Journal, entries, after_verdict, after_entries, fold, version_of, with_round}
 use Rattle.switch_model.specs.Round.{run, judged, tried, settled}
 use Rattle.switch_model.specs.Legal.{IsRightAs}
 use Rattle.agent_run.specs.Single.{kind_of, verdict_on, version_by, round_by, single}
+use Rattle.agent_run.proofs.BareLaws.{l2_fits}
 use Rattle.agent_run.proofs.JournalLaws.{entries_push, fold_push, version_push}
 
 -- the empty state gives no rows
 pub empty_fits : (caps : Caps) → Fits (rows empty) caps
-empty_fits caps = cond-false (nat_lt caps.l2 0) (Some L2) None (le-ltb caps.l2 0 (omega arith))
+empty_fits caps = l2_fits [] caps (le-ltb caps.l2 0 (omega arith))
 
 unmarked_run : (s : Submission) (alone : Bool) → alone ≡ false → cond alone (s ∷ []) (cond alone [] (s ∷ [])) ≡ s ∷ []
 unmarked_run s alone e = ap (λ (b : Bool). cond b (s ∷ []) (cond b [] (s ∷ []))) e

@@ -14,12 +14,13 @@ use Rattle.switch_model.specs.declared.journal.Round.{Round}
 use Rattle.switch_model.specs.declared.reply.Reply.{Reply}
 use Rattle.switch_model.specs.PlainState.{PlainState}
 use Rattle.switch_model.specs.Rows.{rows}
-use Rattle.switch_model.specs.Capacity.{Fits}
+use Rattle.net_types.specs.Capacity.{Fits}
 use Rattle.switch_model.specs.Journal.{Journal, entries, fold, version_of, own, strip, with_round}
 use Rattle.switch_model.specs.Round.{run, next_round}
 use Rattle.switch_model.specs.Reached.{Reached, SettlesNext, AllSettleNext}
 use Rattle.agent_run.specs.Solo.{Course, pending, submission, submit, refuse, reply_of, reply_at, step, solo, started, course_of}
 use Rattle.agent_run.specs.Single.{single, with_single, IsPlain, IsCourse}
+use Rattle.agent_run.proofs.BareLaws.{served_text}
 use Rattle.agent_run.proofs.JournalLaws.{entries_push, fold_push, strip_push, length-strip, slice_get_seam}
 use Rattle.agent_run.proofs.SettledLaws.{empty_fits, run_single, settled_single, single_right, single_fits}
 use Rattle.agent_run.proofs.ReachedLaws.{legal_push, all_settle_grow, all_settle_push}
@@ -130,7 +131,7 @@ started_kept limit caps =
 
 lines_plain : (number : ℕ) (lines : List Line) (text : List ℕ) → AreLines number lines text → AllByRecursion IsPlain lines
 lines_plain number [] text are = tt
-lines_plain number (line ∷ lines) text are = (record { caller = are.3.0; apart = are.3.1 }, lines_plain (number + 1) lines are.2 are.4)
+lines_plain number (line ∷ lines) text are = (record { caller = are.3.0; apart = are.3.1; served = served_text line.update.act are.3.2 are.3.3 }, lines_plain (number + 1) lines are.2 are.4)
 
 -- the lines of a script are of caller 0, and none is to be alone
 pub script_plain : (bytes : List ℕ) (script : Script) → IsScript bytes script → AllByRecursion IsPlain script.lines

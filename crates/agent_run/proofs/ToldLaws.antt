@@ -14,7 +14,7 @@ use Rattle.switch_model.specs.declared.reply.Reply.{Reply}
 use Rattle.switch_model.specs.declared.reply.Reply.TheVariants.{HistoryFull}
 use Rattle.switch_model.specs.Journal.{Journal, entries, entries_of, fold, version_of, own, with_round}
 use Rattle.switch_model.specs.Round.{entry_of}
-use Rattle.switch_model.specs.Reached.{IsFront}
+use Rattle.switch_model.specs.Journal.{IsFront}
 use Rattle.agent_run.specs.Solo.{Course, submission, submit, refuse, step, solo, started, course_of}
 use Rattle.agent_run.specs.Single.{verdict_on, version_by, single_reply, with_single, IsPlain, IsCourse}
 use Rattle.agent_run.specs.Told.{IsRoundEnd, IsSettledAt, IsTold, AreTold, taken, Told}

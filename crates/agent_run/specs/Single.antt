@@ -2,6 +2,7 @@
 use Rattle.std.specs.Prelude.{ℕ, false, ◌≡◌, ◌≤◌, ◌+◌, [], ◌∷◌, ◌++◌, length}
 use Rattle.net_types.specs.declared.table.Caps.{Caps}
 use Rattle.script_text.specs.declared.script.Line.{Line}
+use Rattle.script_text.specs.Script.{IsServed}
 use Rattle.switch_model.specs.declared.act.Submission.{Submission}
 use Rattle.switch_model.specs.declared.act.Update.{Update}
 use Rattle.switch_model.specs.declared.journal.Round.{Round}
@@ -15,7 +16,7 @@ use Rattle.switch_model.specs.PlainState.{PlainState}
 use Rattle.switch_model.specs.Reason.{reason}
 use Rattle.switch_model.specs.Effect.{effect}
 use Rattle.switch_model.specs.Rows.{rows}
-use Rattle.switch_model.specs.Capacity.{over, Fits}
+use Rattle.net_types.specs.Capacity.{over, Fits}
 use Rattle.switch_model.specs.Journal.{fold, own, strip, with_round}
 use Rattle.switch_model.specs.Round.{tried, next_version, entry_of}
 use Rattle.switch_model.specs.Reached.{Reached}
@@ -61,7 +62,8 @@ pub record IsCourse (limit : ℕ) (c : Course) : Type 0 where
   pub fits : Fits (rows (fold c.journal)) c.journal.opening.caps
   pub within : length c.sent ≤ limit
 
--- a line of caller 0, with an update that may be settled with others
+-- a line of caller 0, with an update that a script may name, and that may be settled with others
 pub record IsPlain (line : Line) : Type 0 where
   pub caller : line.caller ≡ 0
   pub apart : line.update.alone ≡ false
+  pub served : IsServed line.update.act

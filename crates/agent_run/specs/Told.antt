@@ -9,7 +9,7 @@ use Rattle.switch_model.specs.declared.journal.Round.{Round}
 use Rattle.switch_model.specs.declared.reply.Reply.{Reply}
 use Rattle.switch_model.specs.declared.reply.Reply.TheVariants.{Settled, HistoryFull}
 use Rattle.switch_model.specs.Journal.{Journal, entries, entries_of, own, strip}
-use Rattle.switch_model.specs.Reached.{IsFront}
+use Rattle.switch_model.specs.Journal.{IsFront}
 
 -- that many entries are the journal up to the end of a round, or none
 abbrev pub IsRoundEnd : Journal → ℕ → Type 0
@@ -22,25 +22,26 @@ pub record IsSettledAt (j : Journal) (line : Line) (seq position : ℕ) (entry :
   pub seq_is : entry.seq ≡ seq
   pub update : entry.update ≡ line.update
 
--- the reply to a line before which its caller had submitted that many updates, and been told of that front
+-- the reply to a line with an update, before which its caller had submitted that many updates, and been told of that front
 abbrev pub IsTold : ℕ → Journal → Line → ℕ → ℕ → Reply → Type 0
 IsTold limit j line seq before (Settled position verdict version front) =
     (entry : Entry) × IsSettledAt j line seq position entry × (verdict ≡ entry.verdict) × (version ≡ entry.version) × (position < front) × IsRoundEnd j front × (before ≤ front)
 IsTold limit j line seq before HistoryFull = length (entries j) ≡ limit
+IsTold limit j line seq before _ = ⊥
 
 -- the updates that a caller had submitted and the front that it had been told of, after one more reply
 abbrev pub seq_after : ℕ → Reply → ℕ
 seq_after seq (Settled position verdict version front) = seq + 1
-seq_after seq HistoryFull = seq
+seq_after seq _ = seq
 
 abbrev pub front_after : ℕ → Reply → ℕ
 front_after before (Settled position verdict version front) = front
-front_after before HistoryFull = before
+front_after before _ = before
 
 -- a caller that was refused is refused from then on
 abbrev pub StaysRefused : Reply → List (ℕ × Reply) → Type 0
-StaysRefused (Settled position verdict version front) rs = Unit {0}
 StaysRefused HistoryFull rs = AllByRecursion (λ r. r.1 ≡ HistoryFull) rs
+StaysRefused _ rs = Unit {0}
 
 -- each line has one reply, under its number, which is true of the journal
 abbrev pub AreTold : ℕ → Journal → ℕ → ℕ → List Line → List (ℕ × Reply) → Type 0
@@ -53,7 +54,7 @@ AreTold limit j seq before (line ∷ lines) (r ∷ rs) =
 -- the update of a line that wasn't refused
 abbrev pub update_taken : Line → Reply → List Update
 update_taken line (Settled position verdict version front) = line.update ∷ []
-update_taken line HistoryFull = []
+update_taken line _ = []
 
 -- the updates of the lines that weren't refused
 abbrev pub taken : List Line → List (ℕ × Reply) → List Update

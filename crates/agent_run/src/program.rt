@@ -4,9 +4,11 @@ ghost use Rattle.keyed.specs.Keyed.{change};
 ghost use Rattle.net_types.specs.KeyOrder.{l2_cmp};
 ghost use Rattle.std.specs.Ordering.{nat_cmp};
 ghost use Rattle.net_types.specs.declared.table.Table.TheVariants.{L2};
+ghost use Rattle.script_text.specs.Script.{IsServed};
 ghost use Rattle.agent_run.specs.Changed.{changed};
+ghost use Rattle.agent_run.specs.Kept.{IsBare};
 ghost use Rattle.chip_core.specs.Chip.{view_of};
-ghost use Rattle.switch_model.specs.Capacity.{over};
+ghost use Rattle.net_types.specs.Capacity.{over, Fits};
 ghost use Rattle.switch_model.specs.Effect.{effect, with_up};
 ghost use Rattle.switch_model.specs.PlainState.{port_at};
 ghost use Rattle.switch_model.specs.Reason.{reason};
@@ -22,10 +24,14 @@ use switch_model::Act;
 pub fn program<C: HwSwitch>(chip: &mut C, state: &State, act: &Act) -> Result<(), Full>
     requires in_step { view_of (C.raw chip.old) ≡ rows state.now }
     requires valid { reason state.now (record { alone = false; act = act.now }) ≡ None }
+    requires bare { IsBare state.now }
+    requires served { IsServed act.now }
     // The chip's rows are those of the state after the act.
     ensures ok { OnOk result (view_of (C.raw chip.new) ≡ rows (effect state.now act.now)) }
     // Full exactly where those rows are over the table's capacity.
     ensures full { IsErr result ↔ (over (rows (effect state.now act.now)) (C.caps chip.old) ≡ Some L2) }
+    // No other table has rows.
+    ensures fits { OnOk result (Fits (rows (effect state.now act.now)) (C.caps chip.old)) }
     ensures err { OnErr result (C.raw chip.new ≡ C.raw chip.old) }
     // Each row that is new or other is written once, and nothing else.
     ensures ok_writes { OnOk result (C.writes chip.new ≡ C.writes chip.old + changed (rows state.now) (rows (effect state.now act.now))) }
@@ -43,6 +49,8 @@ pub fn program<C: HwSwitch>(chip: &mut C, state: &State, act: &Act) -> Result<()
             Ok(())
         }
         Act::MacSet { vlan, mac, port } => set_station(chip, state, *vlan, *mac, *port),
+        // No script names another act.
+        _ => unreachable!(),
     }
 }
 
@@ -55,8 +63,10 @@ fn set_station<C: HwSwitch>(
     port: Port,
 ) -> Result<(), Full>
     requires in_step { view_of (C.raw chip.old) ≡ rows state.now }
+    requires bare { IsBare state.now }
     ensures ok { OnOk result (view_of (C.raw chip.new) ≡ rows (effect state.now (Act.MacSet vlan mac port))) }
     ensures full { IsErr result ↔ (over (rows (effect state.now (Act.MacSet vlan mac port))) (C.caps chip.old) ≡ Some L2) }
+    ensures fits { OnOk result (Fits (rows (effect state.now (Act.MacSet vlan mac port))) (C.caps chip.old)) }
     ensures err { OnErr result (C.raw chip.new ≡ C.raw chip.old) }
     ensures ok_writes { OnOk result (C.writes chip.new ≡ C.writes chip.old + changed (rows state.now) (rows (effect state.now (Act.MacSet vlan mac port)))) }
     ensures err_writes { OnErr result (C.writes chip.new ≡ C.writes chip.old) }
@@ -81,6 +91,7 @@ fn set_station<C: HwSwitch>(
 fn flip_port<C: HwSwitch>(chip: &mut C, state: &State, port: Port, up: bool)
     requires there { IsSome (port_at state.now port) }
     requires in_step { view_of (C.raw chip.old) ≡ rows state.now }
+    requires bare { IsBare state.now }
     ensures rows { view_of (C.raw chip.new) ≡ rows (record state.now { ports = change nat_cmp port (with_up up) state.now.ports }) }
     ensures writes { C.writes chip.new ≡ C.writes chip.old + changed (rows state.now) (rows (record state.now { ports = change nat_cmp port (with_up up) state.now.ports })) }
     ensures caps { C.caps chip.new ≡ C.caps chip.old }

@@ -7,6 +7,7 @@ ghost use Rattle.agent_run.specs.Stations.{stations_behind};
 ghost use Rattle.net_types.specs.Unicast.{is_unicast};
 ghost use Rattle.switch_model.specs.First.{first_that_holds};
 ghost use Rattle.switch_model.specs.PlainState.{empty, port_at, vlan_at};
+ghost use Rattle.script_text.specs.Script.{IsServed};
 ghost use Rattle.switch_model.specs.Reason.{reason, is_in_vlan};
 ghost use Rattle.switch_model.specs.Effect.{effect, with_up};
 ghost use Rattle.switch_model.specs.Rows.{is_up};
@@ -18,7 +19,8 @@ use std::collections::btree_set::Range;
 use std::marker::Model;
 use switch_model::{Act, MacRec, PortRec, Reason, Update, VlanRec};
 
-/// What stands in the switch: VLANs, ports, and the stations' ports. The stations are kept by port
+/// What stands in the switch: VLANs, ports, and the stations' ports. It has no interfaces, neighbours
+/// and routes, since no script names them yet. The stations are kept by port
 /// as well, so that a port's flip meets its own stations alone.
 #[derive(Debug, Drop)]
 pub struct State {
@@ -29,13 +31,14 @@ pub struct State {
 }
 
 impl Model for State {
+    ghost use Rattle.std.specs.Prelude.{[]};
     ghost use Rattle.switch_model.specs.PlainState.{PlainState};
 
     ghost Value = { PlainState };
 
     ghost use Rattle.agent_run.specs.Stations.{IsSound};
 
-    ghost view = { λ s. record { vlans = s.vlans.items; ports = s.ports.items; macs = s.macs.items } };
+    ghost view = { λ s. record { vlans = s.vlans.items; ports = s.ports.items; intfs = []; macs = s.macs.items; neighbors = []; routes = [] } };
 
     ghost invariant = { λ s. IsSound s.vlans.items s.ports.items s.macs.items s.stations };
 }
@@ -94,6 +97,7 @@ impl State {
 
     /// Why an update is invalid, if it is.
     pub fn reason(&self, update: &Update) -> Option<Reason>
+        requires served { IsServed update.now.act }
         ensures { result ≡ reason self.now update.now }
     {
         match &update.act {
@@ -101,6 +105,8 @@ impl State {
             Act::PortAdd { port, vlan } => self.port_reason(*port, *vlan),
             Act::PortUp { port } | Act::PortDown { port } => self.flip_reason(*port),
             Act::MacSet { vlan, mac, port } => self.mac_reason(*vlan, *mac, *port),
+            // No script names another act.
+            _ => unreachable!(),
         }
     }
 
@@ -155,6 +161,7 @@ impl State {
     /// The effect of an act that is valid, in the place of what stands under its key. After a
     /// refusal of memory the state is as before.
     pub fn apply(&mut self, alloc: Global, act: &Act) -> Result<(), NoMemory>
+        requires served { IsServed act.now }
         ensures ok { OnOk result (self.new ≡ effect self.old act.now) }
         ensures err { OnErr result (self.new ≡ self.old) }
     {
@@ -186,6 +193,8 @@ impl State {
                 },
                 *port,
             ),
+            // No script names another act.
+            _ => unreachable!(),
         }
     }
 

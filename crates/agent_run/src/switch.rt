@@ -5,7 +5,8 @@ ghost use Rattle.switch_model.specs.PlainState.{empty as no_state};
 ghost use Rattle.switch_model.specs.Journal.{after_verdict};
 ghost use Rattle.switch_model.specs.Rows.{rows};
 ghost use Rattle.switch_model.specs.Round.{is_accepted};
-ghost use Rattle.agent_run.specs.Kept.{IsKept};
+ghost use Rattle.script_text.specs.Script.{IsServed};
+ghost use Rattle.agent_run.specs.Kept.{IsKept, IsBare};
 ghost use Rattle.agent_run.specs.Single.{kind_of, verdict_on, version_by, single};
 
 use crate::program::program;
@@ -48,6 +49,7 @@ impl<C: HwSwitch> Switch<C> {
     pub fn settle(&mut self, alloc: Global, submission: Submission) -> Result<Verdict, NoMemory>
         requires kept { IsKept self.old.state self.old.version self.old.settled self.old.rounds (C.raw self.old.chip) (C.caps self.old.chip) }
         requires room { self.old.settled < 2 ^ 63 }
+        requires served { IsServed submission.update.act }
         ensures verdict { IfOk result (λ verdict. verdict ≡ verdict_on self.old.state (C.caps self.old.chip) submission.update) }
         ensures rounds { OnOk result (self.new.rounds ≡ self.old.rounds ++ single self.old.state self.old.version (C.caps self.old.chip) submission ∷ []) }
         ensures version { IfOk result (λ verdict. self.new.version ≡ version_by self.old.version verdict) }
@@ -68,7 +70,9 @@ impl<C: HwSwitch> Switch<C> {
     /// The verdict on an update by itself, which is in the state and on the chip where it is
     /// accepted.
     fn attempt(&mut self, alloc: Global, update: &Update) -> Result<Verdict, NoMemory>
-        requires { view_of (C.raw self.old.chip) ≡ rows self.old.state }
+        requires in_step { view_of (C.raw self.old.chip) ≡ rows self.old.state }
+        requires bare { IsBare self.old.state }
+        requires served { IsServed update.now.act }
         ensures verdict { IfOk result (λ verdict. verdict ≡ verdict_on self.old.state (C.caps self.old.chip) update.now) }
         ensures state { IfOk result (λ verdict. self.new.state ≡ after_verdict self.old.state update.now verdict) }
         ensures unchanged { IfOk result (λ verdict. is_accepted verdict ≡ false → C.raw self.new.chip ≡ C.raw self.old.chip) }

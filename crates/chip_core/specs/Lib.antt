@@ -1,1 +1,11 @@
+pub mod Slots
+pub mod References
 pub mod Chip
+pub mod ChangeLists
+pub mod Changes
+pub mod Sim
+pub mod SlotsLaws
+pub mod LinkLaws
+pub mod Tables
+pub mod Sound
+pub mod ChipLaws

@@ -1,12 +1,27 @@
 //! The chip: its tables, the calls that each chip has, and a chip in memory.
 #![tactic(auto)]
 
+mod bounded;
+mod changes;
 mod count;
+mod fault;
+mod group_key;
+mod image;
+mod named;
 mod sim;
+mod slots;
 mod switch;
 
+pub use changes::{
+    ChangeList, GroupChangeList, HostChangeList, L2ChangeList, MarkList, RouteChangeList,
+    RowChanges,
+};
 pub use count::WriteCount;
-pub use net_types::{Caps, L2Key, L2Row, L2RowList, Table, Tables};
+pub use fault::RowsFault;
+pub use net_types::{
+    Caps, GroupRow, GroupRowList, HopTarget, HostAct, HostKey, HostKeyList, HostRow, HostRowList,
+    L2Key, L2Row, L2RowList, Member, MemberList, RouteKey, RouteRow, RouteRowList, Table, Tables,
+};
 pub use sim::SimChip;
 pub use switch::{Full, HwSwitch};
 

@@ -1,4 +1,3 @@
-pub mod NameLaws
 pub mod VersionLaws
 pub mod RowLaws
 pub mod Writes

@@ -8,28 +8,60 @@ use Rattle.switch_model.specs.declared.journal.Round.{Round}
 use Rattle.switch_model.specs.declared.journal.RoundKind.{RoundKind}
 use Rattle.switch_model.specs.declared.journal.RoundKind.TheVariants.{Whole, One}
 use Rattle.switch_model.specs.declared.reply.Reply.{Reply}
-use Rattle.switch_model.specs.declared.reply.Reply.TheVariants.{Settled, HistoryFull}
+use Rattle.switch_model.specs.declared.reply.Reply.TheVariants.{Settled, HistoryFull, Settle, Pump, Answer}
 use Rattle.switch_model.specs.declared.verdict.Reason.{Reason}
-use Rattle.switch_model.specs.declared.verdict.Reason.TheVariants.{NoVlan, VlanExists, NoPort, PortExists, BadMac, PortNotInVlan}
+use Rattle.switch_model.specs.declared.verdict.Reason.TheVariants.{NoVlan, VlanExists, VlanInUse, NoPort, PortExists, PortInUse, NoIntf, IntfExists, VlanHasIntf, IntfInUse, BadMac, AddrExists, AddrOverlap, NoAddr, AddrInUse, NotInSubnet, PortNotInVlan, NoNeighbor, NoMac, InterfaceClient, FamilyMix, NoHops, TooManyHops, DoubleHop, DoublePrefix, NoRoute}
 use Rattle.switch_model.specs.declared.verdict.Verdict.{Verdict}
 use Rattle.switch_model.specs.declared.verdict.Verdict.TheVariants.{Accepted, Invalid, Full}
 use Rattle.switch_model.specs.Journal.{version_after}
-use Rattle.report_text.specs.UpdateText.{update_text}
+use Rattle.script_text.specs.UpdateText.{update_text}
 
+-- the word for a table
 abbrev pub table_text : Table → List ℕ
 table_text L2 = codes "l2"
 table_text Host = codes "host"
 table_text Group = codes "group"
 table_text Route = codes "route"
 
+-- the words for reasons on routes
+abbrev pub route_reason_text : Reason → List ℕ
+route_reason_text InterfaceClient = codes "InterfaceClient"
+route_reason_text FamilyMix = codes "FamilyMix"
+route_reason_text NoHops = codes "NoHops"
+route_reason_text TooManyHops = codes "TooManyHops"
+route_reason_text DoubleHop = codes "DoubleHop"
+route_reason_text DoublePrefix = codes "DoublePrefix"
+route_reason_text NoRoute = codes "NoRoute"
+route_reason_text _ = []
+
+-- the words for reasons on addresses, neighbours and stations, or on what comes after them
+abbrev pub neighbor_reason_text : Reason → List ℕ
+neighbor_reason_text BadMac = codes "BadMac"
+neighbor_reason_text AddrExists = codes "AddrExists"
+neighbor_reason_text AddrOverlap = codes "AddrOverlap"
+neighbor_reason_text NoAddr = codes "NoAddr"
+neighbor_reason_text AddrInUse = codes "AddrInUse"
+neighbor_reason_text NotInSubnet = codes "NotInSubnet"
+neighbor_reason_text PortNotInVlan = codes "PortNotInVlan"
+neighbor_reason_text NoNeighbor = codes "NoNeighbor"
+neighbor_reason_text NoMac = codes "NoMac"
+neighbor_reason_text reason = route_reason_text reason
+
+-- the word for a reason is its name
 abbrev pub reason_text : Reason → List ℕ
 reason_text NoVlan = codes "NoVlan"
 reason_text VlanExists = codes "VlanExists"
+reason_text VlanInUse = codes "VlanInUse"
 reason_text NoPort = codes "NoPort"
 reason_text PortExists = codes "PortExists"
-reason_text BadMac = codes "BadMac"
-reason_text PortNotInVlan = codes "PortNotInVlan"
+reason_text PortInUse = codes "PortInUse"
+reason_text NoIntf = codes "NoIntf"
+reason_text IntfExists = codes "IntfExists"
+reason_text VlanHasIntf = codes "VlanHasIntf"
+reason_text IntfInUse = codes "IntfInUse"
+reason_text reason = neighbor_reason_text reason
 
+-- a verdict, with its reason or its table
 abbrev pub verdict_text : Verdict → List ℕ
 verdict_text Accepted = codes "accepted"
 verdict_text (Invalid reason) = codes "invalid " ++ reason_text reason
@@ -40,6 +72,9 @@ abbrev pub reply_text : Reply → List ℕ
 reply_text (Settled position verdict version front) =
     codes "settled " ++ (decimal position ++ (codes " " ++ (verdict_text verdict ++ (codes " version " ++ (decimal version ++ (codes " front " ++ decimal front))))))
 reply_text HistoryFull = codes "history-full"
+reply_text (Settle count) = codes "settle " ++ decimal count
+reply_text (Pump count) = codes "pump " ++ decimal count
+reply_text (Answer front text) = text
 
 -- a line for each reply
 abbrev pub replies_text : List (ℕ × Reply) → List ℕ
@@ -56,6 +91,7 @@ abbrev pub entries_text : ℕ → List Entry → List ℕ
 entries_text position [] = []
 entries_text position (entry ∷ es) = entry_text position entry ++ entries_text (position + 1) es
 
+-- the word for a kind of round
 abbrev pub kind_text : RoundKind → List ℕ
 kind_text Whole = codes "whole"
 kind_text One = codes "one"

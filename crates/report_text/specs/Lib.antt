@@ -1,4 +1,3 @@
-pub mod UpdateText
 pub mod EntryText
 pub mod RowText
 pub mod Report

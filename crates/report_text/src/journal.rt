@@ -1,16 +1,15 @@
 // The journal: a line for each round, and below it one for each of its entries.
 ghost use Rattle.std.specs.Prelude.{◌≡◌, ℕ, ◌+◌, ◌<◌, ◌^◌, ◌++◌, length, OnOk, IfOk};
-ghost use Rattle.std.specs.String.{string_bytes};
 ghost use Rattle.switch_model.specs.Journal.{entries_of, version_after};
+ghost use Rattle.script_text.specs.UpdateText.{update_text};
 ghost use Rattle.report_text.specs.EntryText.{entry_text, entries_text, round_text, rounds_text};
 ghost use Rattle.report_text.specs.Report.{journal_part};
 
-use crate::update::write_update;
 use crate::words::{VerdictText, kind_word};
-use net_types::NoMemory;
-use std::alloc::AllocError;
-use std::fmt::Write;
-use switch_model::{Entry, Round, RoundList};
+use net_types::{NoMemory, Text};
+use script_text::{Page, print_update};
+use std::alloc::{AllocError, Global};
+use switch_model::{Entry, Round, RoundList, Update};
 
 /// The version after entries that follow this one: that of the last.
 fn version_after(version: u64, entries: &[Entry]) -> u64
@@ -22,54 +21,78 @@ fn version_after(version: u64, entries: &[Entry]) -> u64
     }
 }
 
-fn write_entry(out: &mut String, position: usize, entry: &Entry) -> Result<(), NoMemory>
-    ensures { OnOk result (string_bytes out.new ≡ string_bytes out.old ++ entry_text position entry.now) }
+fn write_entry(
+    alloc: Global,
+    out: &mut Page,
+    position: usize,
+    entry: &Entry,
+) -> Result<(), NoMemory>
+    ensures { OnOk result (out.new ≡ out.old ++ entry_text position entry.now) }
 {
     let caller = entry.caller;
     let seq = entry.seq;
     let verdict = VerdictText(entry.verdict);
     write!(out, "{position} caller {caller} seq {seq} {verdict} ")?;
-    write_update(out, &entry.update)?;
-    out.push_str("\n")
+    write_update(alloc, out, &entry.update)?;
+    out.push_bytes(b"\n")
 }
 
-fn write_entries(out: &mut String, first: usize, entries: &[Entry]) -> Result<(), NoMemory>
+fn write_update(alloc: Global, out: &mut Page, update: &Update) -> Result<(), NoMemory>
+    ensures { OnOk result (out.new ≡ out.old ++ update_text update.now) }
+{
+    let mut text = Text::new(alloc);
+    print_update(alloc, &mut text, update)?;
+    out.push_bytes(text.as_slice())
+}
+
+fn write_entries(
+    alloc: Global,
+    out: &mut Page,
+    first: usize,
+    entries: &[Entry],
+) -> Result<(), NoMemory>
     requires { first + length entries.now < 2 ^ 64 }
-    ensures { OnOk result (string_bytes out.new ≡ string_bytes out.old ++ entries_text first entries.now) }
+    ensures { OnOk result (out.new ≡ out.old ++ entries_text first entries.now) }
 {
     let mut position = first;
     for entry in entries {
-        write_entry(out, position, entry)?;
+        write_entry(alloc, out, position, entry)?;
         position += 1;
     }
     Ok(())
 }
 
 fn write_round(
-    out: &mut String,
+    alloc: Global,
+    out: &mut Page,
     number: usize,
     first: usize,
     version: u64,
     round: &Round,
 ) -> Result<(), NoMemory>
     requires { first + length round.now.entries < 2 ^ 64 }
-    ensures { OnOk result (string_bytes out.new ≡ string_bytes out.old ++ round_text number first version round.now) }
+    ensures { OnOk result (out.new ≡ out.old ++ round_text number first version round.now) }
 {
     let kind = kind_word(round.kind);
     writeln!(out, "round {number} {kind} version {version}")?;
-    write_entries(out, first, round.entries.as_slice())
+    write_entries(alloc, out, first, round.entries.as_slice())
 }
 
-fn write_rounds(out: &mut String, version: u64, rounds: &[Round]) -> Result<(), NoMemory>
+fn write_rounds(
+    alloc: Global,
+    out: &mut Page,
+    version: u64,
+    rounds: &[Round],
+) -> Result<(), NoMemory>
     requires { length (entries_of rounds.now) < 2 ^ 64 }
-    ensures { OnOk result (string_bytes out.new ≡ string_bytes out.old ++ rounds_text 0 0 version rounds.now) }
+    ensures { OnOk result (out.new ≡ out.old ++ rounds_text 0 0 version rounds.now) }
 {
     let mut number = 0;
     let mut first = 0;
     let mut after = version;
     for round in rounds {
         after = version_after(after, round.entries.as_slice());
-        write_round(out, number, first, after, round)?;
+        write_round(alloc, out, number, first, after, round)?;
         number += 1;
         first += round.entries.len();
     }
@@ -103,11 +126,12 @@ impl Totals {
 }
 
 pub(crate) fn write_journal(
-    out: &mut String,
+    alloc: Global,
+    out: &mut Page,
     version: u64,
     rounds: &RoundList,
 ) -> Result<(), NoMemory>
-    ensures { OnOk result (string_bytes out.new ≡ string_bytes out.old ++ journal_part version rounds.now) }
+    ensures { OnOk result (out.new ≡ out.old ++ journal_part version rounds.now) }
 {
     let rounds = rounds.as_slice();
     let count = rounds.len();
@@ -118,5 +142,5 @@ pub(crate) fn write_journal(
         out,
         "journal entries {entries} rounds {count} version {last}"
     )?;
-    write_rounds(out, version, rounds)
+    write_rounds(alloc, out, version, rounds)
 }

@@ -8,12 +8,10 @@ mod mac;
 mod replies;
 mod report;
 mod tables;
-mod update;
 mod words;
 
 pub use head::ReportHead;
 pub use report::report_bytes;
-pub use update::write_update;
 
 #[cfg(test)]
 mod tests;

@@ -1,16 +1,15 @@
 // The rows of the chip's tables, a line each.
 ghost use Rattle.std.specs.Prelude.{◌≡◌, ◌++◌, [], ◌∷◌, OnOk};
-ghost use Rattle.std.specs.String.{string_bytes};
 ghost use Rattle.report_text.specs.RowText.{l2_text};
 ghost use Rattle.report_text.specs.Report.{tables_part};
 
 use crate::mac::MacText;
 use crate::words::up_word;
 use net_types::{L2Key, L2Row, NoMemory, Tables};
-use std::fmt::Write;
+use script_text::Page;
 
-fn write_l2_row(out: &mut String, entry: &(L2Key, L2Row)) -> Result<(), NoMemory>
-    ensures { OnOk result (string_bytes out.new ≡ string_bytes out.old ++ l2_text (entry.now ∷ [])) }
+fn write_l2_row(out: &mut Page, entry: &(L2Key, L2Row)) -> Result<(), NoMemory>
+    ensures { OnOk result (out.new ≡ out.old ++ l2_text (entry.now ∷ [])) }
 {
     let vlan = entry.0.vlan.get();
     let mac = MacText(entry.0.mac);
@@ -19,8 +18,8 @@ fn write_l2_row(out: &mut String, entry: &(L2Key, L2Row)) -> Result<(), NoMemory
     writeln!(out, "l2 {vlan} {mac} port {port} {up}")
 }
 
-fn write_l2_rows(out: &mut String, rows: &[(L2Key, L2Row)]) -> Result<(), NoMemory>
-    ensures { OnOk result (string_bytes out.new ≡ string_bytes out.old ++ l2_text rows.now) }
+fn write_l2_rows(out: &mut Page, rows: &[(L2Key, L2Row)]) -> Result<(), NoMemory>
+    ensures { OnOk result (out.new ≡ out.old ++ l2_text rows.now) }
 {
     for entry in rows {
         write_l2_row(out, entry)?;
@@ -28,8 +27,8 @@ fn write_l2_rows(out: &mut String, rows: &[(L2Key, L2Row)]) -> Result<(), NoMemo
     Ok(())
 }
 
-pub(crate) fn write_tables(out: &mut String, tables: &Tables) -> Result<(), NoMemory>
-    ensures { OnOk result (string_bytes out.new ≡ string_bytes out.old ++ tables_part (record { l2 = tables.now.l2 })) }
+pub(crate) fn write_tables(out: &mut Page, tables: &Tables) -> Result<(), NoMemory>
+    ensures { OnOk result (out.new ≡ out.old ++ tables_part (record { l2 = tables.now.l2; host = []; group = []; route = [] })) }
 {
     let count = tables.l2.len();
     writeln!(out, "tables l2 {count} host 0 group 0 route 0")?;

@@ -1,9 +1,13 @@
 use super::*;
-use net_types::{Caps, ItemList, L2Key, L2Row, Mac, NoMemory, Port, Table, Tables, Vlan, VlanName};
+use net_types::{
+    Caps, ItemList, L2Key, L2Row, Mac, NoMemory, Port, Table, Tables, Text, Vlan, VlanName,
+};
 use std::alloc::Global;
 use std::process::Abort;
 use std::test::Fail;
-use switch_model::{Act, Entry, Reason, Reply, Round, RoundKind, RoundList, Update, Verdict};
+use switch_model::{
+    Act, Entry, Reason, Reply, ReplyList, Round, RoundKind, RoundList, Update, Verdict,
+};
 
 fn vlan(rt: &impl Abort, number: u16) -> Vlan {
     Vlan::new(number).expect(rt, "a VLAN")
@@ -195,10 +199,13 @@ fn a_run_of_five_rounds(rt: HostRuntime) -> Result<(), Fail> {
 const ROUNDS_OF_SEVERAL: &str = "report 1
 start warm version 9
 caps 65536 1 4096 2
-replies 3
+replies 6
 12 settled 7 full group version 10 front 11
 14 history-full
 15 settled 0 full route version 11 front 18446744073709551615
+16 settle 2
+17 pump 4294967295
+18 front 3 version 2
 journal entries 8 rounds 3 version 11
 round 0 whole version 10
 0 caller 2 seq 5 accepted port up 1024
@@ -279,6 +286,21 @@ fn rounds_of_several(rt: &impl Abort, alloc: Global) -> Result<RoundList, NoMemo
     Ok(rounds)
 }
 
+fn replies_of_several(alloc: Global) -> Result<ReplyList, NoMemory> {
+    let answer = Reply::Answer {
+        front: 3,
+        text: Text::from_vec(Vec::from_slice(alloc, b"front 3 version 2")?),
+    };
+    let mut replies = ItemList::new(alloc);
+    replies.push((12, settled(7, Verdict::Full(Table::Group), 10, 11)))?;
+    replies.push((14, Reply::HistoryFull))?;
+    replies.push((15, settled(0, Verdict::Full(Table::Route), 11, u64::MAX)))?;
+    replies.push((16, Reply::Settle(2)))?;
+    replies.push((17, Reply::Pump(u32::MAX)))?;
+    replies.push((18, answer))?;
+    Ok(replies)
+}
+
 #[test]
 fn rounds_of_several_entries(rt: HostRuntime) -> Result<(), Fail> {
     let alloc = rt.alloc();
@@ -287,11 +309,7 @@ fn rounds_of_several_entries(rt: HostRuntime) -> Result<(), Fail> {
         caps: caps(65536, 1, 4096, 2),
     };
     let rounds = rounds_of_several(&rt, alloc)?;
-    let replies = [
-        (12, settled(7, Verdict::Full(Table::Group), 10, 11)),
-        (14, Reply::HistoryFull),
-        (15, settled(0, Verdict::Full(Table::Route), 11, u64::MAX)),
-    ];
+    let replies = replies_of_several(alloc)?;
     let rows = [
         row(&rt, 1, 0x0200_0000_0001, 1, true),
         row(&rt, 4094, 0xa0b1_c2d3_e4f5, 1024, false),
@@ -302,21 +320,7 @@ fn rounds_of_several_entries(rt: HostRuntime) -> Result<(), Fail> {
         group: ItemList::new(alloc),
         route: ItemList::new(alloc),
     };
-    let replies = ItemList::from_vec(replies.to_vec(alloc)?);
     let text = report_bytes(alloc, &head, 9, &rounds, &replies, &tables)?;
     assert_eq!(rt; str::from_utf8(text.as_slice())?, ROUNDS_OF_SEVERAL);
-    Ok(())
-}
-
-#[test]
-fn an_update_behind_a_text(rt: HostRuntime) -> Result<(), Fail> {
-    let alloc = rt.alloc();
-    let mut out = String::from_str(alloc, "3 ")?;
-    let update = Update {
-        alone: true,
-        act: vlan_add(&rt, alloc, 12, "b")?,
-    };
-    write_update(&mut out, &update)?;
-    assert_eq!(rt; out.as_str(), "3 alone vlan add 12 b");
     Ok(())
 }

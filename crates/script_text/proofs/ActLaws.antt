@@ -169,6 +169,7 @@ act_again (MacSet v m p) text rest is =
     let words = codes "mac set " ++ (decimal v ++ 32 ∷ (is.1.2 ++ 32 ∷ decimal p)) in
     ap (λ (l : List ℕ). act_at (l ++ rest)) (is.2 ∙ ap (λ (l : List ℕ). l ++ 10 ∷ []) is.1.4)
     ∙ mac_set_form.again (MacSet v m p) (words ++ 10 ∷ []) rest (v, m, p, refl, (words, (is.1.0, is.1.1, is.1.2, is.1.3, refl), refl))
+act_again _ text rest is = absurd is.1
 
 act_form : Form IsActLine act_at
 act_form = record { takes = act_takes; again = act_again }

@@ -6,3 +6,4 @@ mod Fields
 mod MacLaws
 mod ActLaws
 mod WholeLaws
+mod Writes

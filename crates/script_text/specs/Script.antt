@@ -10,7 +10,7 @@ use Rattle.switch_model.specs.declared.act.Act.TheVariants.{VlanAdd, PortAdd, Po
 use Rattle.script_text.specs.declared.script.Line.{Line}
 use Rattle.script_text.specs.declared.script.Script.{Script}
 
--- the words of an act, joined by single spaces; numbers are decimal, without leading zeros
+-- the words of an act, joined by single spaces; numbers are decimal, without leading zeros; five acts have words in a script
 abbrev pub IsActText : Act → List ℕ → Type 0
 IsActText (VlanAdd vlan name) text = IsVlan vlan × (is_vlan_name name ≡ true) × (text ≡ codes "vlan add " ++ (decimal vlan ++ (codes " " ++ name)))
 IsActText (PortAdd port vlan) text = IsPort port × IsVlan vlan × (text ≡ codes "port add " ++ (decimal port ++ (codes " " ++ decimal vlan)))
@@ -18,6 +18,16 @@ IsActText (PortUp port) text = IsPort port × (text ≡ codes "port up " ++ deci
 IsActText (PortDown port) text = IsPort port × (text ≡ codes "port down " ++ decimal port)
 IsActText (MacSet vlan mac port) text =
     IsVlan vlan × IsPort port × (m : List ℕ) × IsMac mac m × (text ≡ codes "mac set " ++ (decimal vlan ++ (codes " " ++ (m ++ (codes " " ++ decimal port)))))
+IsActText _ text = ⊥
+
+-- the acts that a script may name
+abbrev pub IsServed : Act → Type 0
+IsServed (VlanAdd vlan name) = Unit {0}
+IsServed (PortAdd port vlan) = Unit {0}
+IsServed (PortUp port) = Unit {0}
+IsServed (PortDown port) = Unit {0}
+IsServed (MacSet vlan mac port) = Unit {0}
+IsServed _ = ⊥
 
 -- the caller's number, which is 0, and an update that isn't marked `alone`
 abbrev pub IsLine : Line → List ℕ → Type 0

@@ -1,1 +1,11 @@
-mod WorkedExamples
+pub mod KeyLaws
+pub mod Notation
+mod ExamplesAddresses
+mod ExamplesRoutes
+mod ExamplesRows
+mod ExamplesRounds
+mod ExamplesPortReasons
+mod ExamplesIntfReasons
+mod ExamplesNeighborReasons
+mod ExamplesRouteReasons
+mod ExamplesReasonOrder

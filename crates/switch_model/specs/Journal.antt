@@ -1,5 +1,5 @@
 -- The journal: how each submission was settled, in rounds.
-use Rattle.std.specs.Prelude.{ℕ, ◌==◌, List, [], ◌∷◌, ◌++◌, map, filter}
+use Rattle.std.specs.Prelude.{ℕ, ◌≡◌, ◌-◌, ◌==◌, nat_le, List, [], ◌∷◌, ◌++◌, length, map, filter, if◌then◌else◌}
 use Rattle.net_types.specs.declared.table.Caps.{Caps}
 use Rattle.switch_model.specs.declared.act.Submission.{Submission}
 use Rattle.switch_model.specs.declared.act.Update.{Update}
@@ -16,6 +16,7 @@ pub record Opening : Type 0 where
   pub version : ℕ
   pub caps : Caps
 
+-- the opening, and the rounds since then
 pub record Journal : Type 0 where
   pub opening : Opening
   pub rounds : List Round
@@ -25,6 +26,7 @@ abbrev pub entries_of : List Round → List Entry
 entries_of [] = []
 entries_of (round ∷ rounds) = round.entries ++ entries_of rounds
 
+-- the entries of all rounds, in order
 abbrev pub entries : Journal → List Entry
 entries j = entries_of j.rounds
 
@@ -34,6 +36,7 @@ after_verdict m update Accepted = effect m update.act
 after_verdict m update (Invalid r) = m
 after_verdict m update (Full t) = m
 
+-- the state after these entries in turn
 abbrev pub after_entries : PlainState → List Entry → PlainState
 after_entries m [] = m
 after_entries m (entry ∷ es) = after_entries (after_verdict m entry.update entry.verdict) es
@@ -47,9 +50,11 @@ version_after v (entry ∷ es) = version_after entry.version es
 abbrev pub fold : Journal → PlainState
 fold j = after_entries j.opening.state (entries j)
 
+-- the version after all entries
 abbrev pub version_of : Journal → ℕ
 version_of j = version_after j.opening.version (entries j)
 
+-- an entry without its verdict and version
 abbrev pub submission_of : Entry → Submission
 submission_of entry = record { caller = entry.caller; seq = entry.seq; update = entry.update }
 
@@ -64,3 +69,24 @@ own caller = filter (λ s. s.caller == caller)
 -- the journal with one more round
 abbrev pub with_round : Journal → Round → Journal
 with_round j round = record j { rounds = j.rounds ++ round ∷ [] }
+
+-- how many entries a journal has
+abbrev pub len : Journal → ℕ
+len j = length (entries j)
+
+-- the rounds at the front that have n entries together, where n is 0 or the end of a round
+abbrev pub rounds_upto : ℕ → List Round → List Round
+rounds_upto n [] = []
+rounds_upto n (round ∷ rounds) = if nat_le (length round.entries) n then round ∷ rounds_upto (n - length round.entries) rounds else []
+
+-- the journal as it was when it had n entries
+abbrev pub upto : Journal → ℕ → Journal
+upto j n = record j { rounds = rounds_upto n j.rounds }
+
+-- one list is a front of another
+abbrev pub IsFront : {A : Type 0} → List A → List A → Type 0
+IsFront {A} front all = (rest : List A) × (all ≡ front ++ rest)
+
+-- one journal is a front of another: they have one opening, and the rounds of the first begin those of the second
+abbrev pub IsJournalFront : Journal → Journal → Type 0
+IsJournalFront j k = (j.opening ≡ k.opening) × IsFront j.rounds k.rounds

@@ -11,7 +11,7 @@ use Rattle.switch_model.specs.PlainState.{PlainState}
 use Rattle.switch_model.specs.Reason.{reason}
 use Rattle.switch_model.specs.Effect.{effect}
 use Rattle.switch_model.specs.Rows.{rows}
-use Rattle.switch_model.specs.Capacity.{over, Fits}
+use Rattle.net_types.specs.Capacity.{over, Fits}
 use Rattle.switch_model.specs.Journal.{Journal, after_verdict, after_entries, version_after, submission_of}
 use Rattle.switch_model.specs.Round.{run, judged, tried, next_version}
 
@@ -32,13 +32,16 @@ IsTried m caps e = e.verdict ≡ tried (reason m e.update) (over (rows (effect m
 abbrev pub HaveVersion : ℕ → List Entry → Type 0
 HaveVersion v es = AllByRecursion (λ e. e.version ≡ next_version v (map (λ x. x.verdict) es)) es
 
+-- a round of that kind is right after that state and version
 abbrev pub IsRightAs : RoundKind → Caps → PlainState → ℕ → List Entry → Type 0
 IsRightAs Whole caps m v es = IsRun (map submission_of es) × AreJudged m es × Fits (rows (after_entries m es)) caps × HaveVersion v es
 IsRightAs One caps m v es = (e : Entry) × (es ≡ e ∷ []) × IsTried m caps e × HaveVersion v es
 
+-- each round is right after those before it
 abbrev pub AreRight : Caps → PlainState → ℕ → List Round → Type 0
 AreRight caps m v [] = Unit {0}
 AreRight caps m v (r ∷ rs) = IsRightAs r.kind caps m v r.entries × AreRight caps (after_entries m r.entries) (version_after v r.entries) rs
 
+-- the opening fits, and each round is right
 abbrev pub IsLegal : Journal → Type 0
 IsLegal j = Fits (rows j.opening.state) j.opening.caps × AreRight j.opening.caps j.opening.state j.opening.version j.rounds

@@ -1,14 +1,10 @@
 -- What can be reached by callers that submit and rounds that settle.
-use Rattle.std.specs.Prelude.{ℕ, ◌≡◌, ◌≤◌, List, [], ◌∷◌, ◌++◌, length, take, drop}
+use Rattle.std.specs.Prelude.{ℕ, ◌≡◌, ◌≤◌, List, [], ◌∷◌, length, take, drop}
 use Rattle.switch_model.specs.declared.act.Submission.{Submission}
 use Rattle.switch_model.specs.declared.journal.Round.{Round}
-use Rattle.switch_model.specs.Journal.{Journal, entries, strip, with_round}
+use Rattle.switch_model.specs.Journal.{Journal, IsFront, entries, strip, with_round}
 use Rattle.switch_model.specs.Round.{run, next_round}
 use Rattle.switch_model.specs.Legal.{IsLegal}
-
--- one list is a front of another
-abbrev pub IsFront : {A : Type 0} → List A → List A → Type 0
-IsFront {A} front all = (rest : List A) × (all ≡ front ++ rest)
 
 -- the round that settles the run of 1 to 64 of the submissions that the journal hasn't settled
 abbrev pub SettlesNext : List Submission → Journal → Round → Type 0

@@ -14,7 +14,7 @@ use Rattle.switch_model.specs.PlainState.{PlainState}
 use Rattle.switch_model.specs.Reason.{reason}
 use Rattle.switch_model.specs.Effect.{effect}
 use Rattle.switch_model.specs.Rows.{rows}
-use Rattle.switch_model.specs.Capacity.{over}
+use Rattle.net_types.specs.Capacity.{over}
 use Rattle.switch_model.specs.Journal.{Journal, after_verdict, after_entries, fold, version_of}
 
 -- the longest front of at most n submissions of which none is to be alone
@@ -48,6 +48,7 @@ judge m (s ∷ ss) = let verdict = judged (reason m s.update) in (s, verdict) �
 abbrev pub judge_one : PlainState → Caps → Submission → Submission × Verdict
 judge_one m caps s = (s, tried (reason m s.update) (over (rows (effect m s.update.act)) caps))
 
+-- the update was accepted
 abbrev pub is_accepted : Verdict → Bool
 is_accepted Accepted = true
 is_accepted (Invalid r) = false
@@ -58,6 +59,7 @@ abbrev pub next_version : ℕ → List Verdict → ℕ
 next_version v [] = v
 next_version v (verdict ∷ vs) = if is_accepted verdict then v + 1 else next_version v vs
 
+-- the entry of a submission with its verdict, in a round that ends at that version
 abbrev pub entry_of : ℕ → Submission × Verdict → Entry
 entry_of version x = record { caller = x.0.caller; seq = x.0.seq; update = x.0.update; verdict = x.1; version = version }
 

@@ -1,45 +1,99 @@
 // Updates of the switch.
-ghost use Rattle.std.specs.Prelude.{◌≡◌, IfOk};
-
-use net_types::{Mac, NoMemory, Port, Vlan, VlanName};
-use std::alloc::Global;
+use crate::via::{RouteList, Via};
+use net_types::{Addr, Client, Intf, Ip, Mac, Port, Prefix, Vlan, VlanName, Vrf};
 
 /// One change of the switch.
 #[derive(Debug, Drop)]
 pub enum Act {
     /// A new VLAN.
-    VlanAdd { vlan: Vlan, name: VlanName },
+    VlanAdd {
+        vlan: Vlan,
+        name: VlanName,
+    },
+    VlanDel {
+        vlan: Vlan,
+    },
     /// A new port in a VLAN. It is down.
-    PortAdd { port: Port, vlan: Vlan },
-    PortUp { port: Port },
-    PortDown { port: Port },
+    PortAdd {
+        port: Port,
+        vlan: Vlan,
+    },
+    PortDel {
+        port: Port,
+    },
+    /// Another VLAN for a port.
+    PortVlan {
+        port: Port,
+        vlan: Vlan,
+    },
+    PortUp {
+        port: Port,
+    },
+    PortDown {
+        port: Port,
+    },
+    /// A new interface of a VLAN, in a VRF. It has no address.
+    IntfAdd {
+        intf: Intf,
+        vlan: Vlan,
+        vrf: Vrf,
+        mac: Mac,
+    },
+    IntfDel {
+        intf: Intf,
+    },
+    AddrAdd {
+        intf: Intf,
+        addr: Addr,
+    },
+    AddrDel {
+        intf: Intf,
+        addr: Addr,
+    },
+    /// A neighbour that is reachable, in the place of the one that is there.
+    NeighborSet {
+        intf: Intf,
+        ip: Ip,
+        mac: Mac,
+        port: Port,
+    },
+    /// A neighbour that isn't reachable yet, in the place of the one that is there.
+    NeighborPending {
+        intf: Intf,
+        ip: Ip,
+    },
+    NeighborDel {
+        intf: Intf,
+        ip: Ip,
+    },
     /// A station's port in a VLAN, in the place of the port that is there.
-    MacSet { vlan: Vlan, mac: Mac, port: Port },
-}
-
-impl Act {
-    /// The same act again.
-    pub fn copy(&self, alloc: Global) -> Result<Act, NoMemory>
-        ensures { IfOk result (λ act. act ≡ self.now) }
-    {
-        Ok(match self {
-            Act::VlanAdd { vlan, name } => Act::VlanAdd {
-                vlan: *vlan,
-                name: name.copy(alloc)?,
-            },
-            Act::PortAdd { port, vlan } => Act::PortAdd {
-                port: *port,
-                vlan: *vlan,
-            },
-            Act::PortUp { port } => Act::PortUp { port: *port },
-            Act::PortDown { port } => Act::PortDown { port: *port },
-            Act::MacSet { vlan, mac, port } => Act::MacSet {
-                vlan: *vlan,
-                mac: *mac,
-                port: *port,
-            },
-        })
-    }
+    MacSet {
+        vlan: Vlan,
+        mac: Mac,
+        port: Port,
+    },
+    MacDel {
+        vlan: Vlan,
+        mac: Mac,
+    },
+    /// A client's route to a prefix, in the place of its route that is there.
+    RouteSet {
+        vrf: Vrf,
+        prefix: Prefix,
+        client: Client,
+        via: Via,
+    },
+    RouteDel {
+        vrf: Vrf,
+        prefix: Prefix,
+        client: Client,
+    },
+    /// All routes of a client in a VRF: those that aren't listed are taken away.
+    ClientSync {
+        vrf: Vrf,
+        client: Client,
+        routes: RouteList,
+    },
 }
 
 /// A change as a caller submits it. One that is `alone` is settled in a round of its own.
@@ -47,18 +101,6 @@ impl Act {
 pub struct Update {
     pub alone: bool,
     pub act: Act,
-}
-
-impl Update {
-    /// The same update again.
-    pub fn copy(&self, alloc: Global) -> Result<Update, NoMemory>
-        ensures { IfOk result (λ update. update ≡ self.now) }
-    {
-        Ok(Update {
-            alone: self.alone,
-            act: self.act.copy(alloc)?,
-        })
-    }
 }
 
 /// An update with its caller and that caller's own number for it, counted from 0.

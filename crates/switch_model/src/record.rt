@@ -1,7 +1,8 @@
 // What the state keeps under each key.
-use net_types::{Port, Vlan, VlanName};
+use crate::addrs::AddrList;
+use net_types::{HopSet, Intf, Mac, Port, Vlan, VlanName, Vrf};
 
-#[derive(Debug, Drop)]
+#[derive(Debug, PartialEq, Eq, Drop)]
 pub struct VlanRec {
     pub name: VlanName,
 }
@@ -12,8 +13,62 @@ pub struct PortRec {
     pub up: bool,
 }
 
+/// An interface of the switch: its VLAN, its VRF, its own MAC and its addresses.
+#[derive(Debug, PartialEq, Eq, Drop)]
+pub struct IntfRec {
+    pub vlan: Vlan,
+    pub vrf: Vrf,
+    pub mac: Mac,
+    pub addrs: AddrList,
+}
+
 /// The port behind which a station was set.
 #[derive(Clone, Copy, Debug, PartialEq, Eq)]
 pub struct MacRec {
     pub port: Port,
+}
+
+/// A neighbour of an interface: by ARP for IPv4, by NDP for IPv6.
+#[derive(Clone, Copy, Debug, PartialEq, Eq)]
+pub enum NeighborRec {
+    /// It was asked for, and hasn't answered.
+    Pending,
+    Reachable { mac: Mac, port: Port },
+}
+
+/// What a route in the state does with packets.
+#[derive(Debug, PartialEq, Eq, Drop)]
+pub enum RouteRec {
+    /// Send them to one of 1 to 32 next hops.
+    Hops(HopSet),
+    ToCpu,
+    Discard,
+}
+
+/// An entry of the forwarding information base: what becomes of packets to a prefix once its best
+/// route's next hops have been followed to their ends.
+#[derive(Debug, PartialEq, Eq, Drop)]
+pub enum FibEntry {
+    /// The prefix is a subnet of that interface.
+    Connected(Intf),
+    /// Packets go to one of 1 to 64 direct hops, each an ip on an interface.
+    Forward(HopSet),
+    ToCpu,
+    Discard,
+}
+
+/// How many entries each part of the state has. A count past the last number of its type stands
+/// there as that number.
+#[derive(Clone, Copy, Debug, PartialEq, Eq)]
+pub struct Totals {
+    pub ports: u64,
+    /// The ports that are up.
+    pub up: u64,
+    pub vlans: u64,
+    pub intfs: u64,
+    pub macs: u64,
+    pub neighbors: u64,
+    pub routes: u64,
+    /// The entries of the FIB.
+    pub fib: u64,
 }

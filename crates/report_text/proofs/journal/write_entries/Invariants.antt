@@ -1,10 +1,9 @@
 use Rattle.std.proofs.Common.{◌≡◌, ◌+◌, ◌++◌, drop}
-use Rattle.std.specs.String.{string_bytes}
 use Rattle.report_text.specs.EntryText.{entries_text}
 use Rattle.report_text.proofs.journal.write_entries.Given as goal
 
 abbrev pub invariant-loop-entry : goal.invariant-loop-entry
 invariant-loop-entry l = record {
   position : l.position ≡ l.first + l.entry-index;
-  text : string_bytes l.out ++ entries_text l.position (drop l.entry-index l.entries) ≡ string_bytes l.fn.out ++ entries_text l.first l.entries;
+  text : l.out ++ entries_text l.position (drop l.entry-index l.entries) ≡ l.fn.out ++ entries_text l.first l.entries;
 }

@@ -1,6 +1,5 @@
 use Rattle.std.proofs.Common.{◌++◌, codes, [], ◌∷◌}
 use Rattle.std.specs.Fmt.{decimal}
-use Rattle.std.specs.String.{string_bytes}
 use Rattle.ip_text.specs.Printed.{mac_text}
 use Rattle.report_text.specs.RowText.{l2_text}
 use Rattle.report_text.proofs.Writes.{writes}
@@ -9,6 +8,6 @@ use Rattle.report_text.proofs.tables.write_l2_row.Goals as goal
 pub returns : goal.returns
 returns c =
     let entry = c.args.entry.now in
-    writes c.writeln.result (string_bytes c.args.out.now) (string_bytes c.writeln.new.self)
+    writes c.writeln.result c.args.out.now c.writeln.new.self
     (codes "l2 " ++ (decimal c.get-vlan.result ++ (codes " " ++ (mac_text entry.0.mac ++ (codes " port " ++ (decimal c.get-port.result ++ (codes " " ++ (c.up_word-up.result.now ++ codes "\n"))))))))
     (l2_text (entry ∷ [])) c.writeln.ensures.bytes (simp (c.get-vlan.ensures.value, c.get-port.ensures.value, c.up_word-up.ensures))

@@ -1,4 +1,4 @@
-use Rattle.std.proofs.Common.{◌≡◌, length, ap, ◌∙◌, arith}
+use Rattle.std.proofs.Common.{◌≡◌, [], length, ap, ◌∙◌, arith}
 use Rattle.std.proofs.lemmas.List.{with_items_is}
 use Rattle.std.specs.Ordering.{nat_cmp}
 use Rattle.keyed.specs.ValueLaws.{length-change}
@@ -19,7 +19,7 @@ set-requires-clause-ascends c = rw c.as_mut_slice.ensures.value c.self.invariant
 pub returns : goal.returns
 returns c =
     let ports = c.self.inside.ports in
-    let before : PlainState = record { vlans = c.self.inside.vlans.items; ports = ports.items; macs = c.self.inside.macs.items } in
+    let before : PlainState = record { vlans = c.self.inside.vlans.items; ports = ports.items; intfs = []; macs = c.self.inside.macs.items; neighbors = []; routes = [] } in
     let there = rw c.as_slice.ensures.value at c.in-Some.ensures in
     let after = rw c.as_mut_slice.ensures.value at c.set.ensures.new in
     let flipped = flip_there c.args.port c.args.up c.in-Some.rec.now ports.items c.set.new.entries there after in

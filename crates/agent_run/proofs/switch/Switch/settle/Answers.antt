@@ -18,7 +18,7 @@ returns-clause-kept g c =
     let judged = c.in_ok-verdict.ensures.verdict in
     subst (λ (k : Caps). IsKept c.attempt.new.self.state c.version_after-self.result (c.attempt.new.self.settled + 1) c.push.new.self (g.C.HwSwitch.raw c.attempt.new.self.chip) k) (sym c.attempt.ensures.caps)
     (kept_single old.state old.version old.settled old.rounds (g.C.HwSwitch.raw old.chip) caps s c.attempt.new.self.state c.version_after-self.result (c.attempt.new.self.settled + 1) c.push.new.self (g.C.HwSwitch.raw c.attempt.new.self.chip)
-    c.requires.kept
+    c.requires.served c.requires.kept
     (c.in_ok-verdict.ensures.state ∙ ap (after_verdict old.state s.update) judged)
     (c.version_after-self.ensures ∙ ap (λ v. version_by v c.in_ok-verdict.verdict) c.attempt.ensures.others.0 ∙ ap (version_by old.version) judged)
     (ap (λ n. n + 1) c.attempt.ensures.others.1)

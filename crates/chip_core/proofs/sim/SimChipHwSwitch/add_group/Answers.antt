@@ -1,0 +1,12 @@
+use Rattle.std.proofs.Common.{sym, subst, ap, length}
+use Rattle.net_types.specs.Groups.{IsGroupLength}
+use Rattle.chip_core.specs.Chip.{AreLinked}
+use Rattle.chip_core.specs.LinkLaws.{linked-put_group}
+use Rattle.chip_core.specs.Sim.{tables_of}
+use Rattle.chip_core.proofs.sim.SimChipHwSwitch.add_group.Goals as goal
+
+pub invariant_of-self : goal.invariant_of-self
+invariant_of-self c =
+    let old = c.args.self.now in
+    let long = subst IsGroupLength (ap length c.members.ensures.value) c.members.ensures.range in
+    record { linked = subst (λ groups. AreLinked (tables_of old.l2.rows.items old.hosts.rows.rows.items groups old.routes.rows.items)) (sym c.add-slot.ensures.rows) (linked-put_group old.l2.rows.items old.hosts.rows.rows.items old.groups.rows.rows.items old.routes.rows.items old.linked c.add-slot.result c.args.row long c.requires.held) }

@@ -1,0 +1,23 @@
+use Rattle.std.proofs.Common.{◌∙◌, sym, subst}
+use Rattle.chip_core.specs.Chip.{AreLinked}
+use Rattle.chip_core.specs.LinkLaws.{linked-without_host}
+use Rattle.chip_core.specs.Sim.{tables_of}
+use Rattle.chip_core.specs.SlotsLaws.{host_at-rows}
+use Rattle.chip_core.proofs.RawLaws.{raw-without_host, there_as}
+use Rattle.chip_core.proofs.sim.SimChipHwSwitch.del_host.Goals as goal
+
+pub cut-old-requires : goal.cut-old-requires
+cut-old-requires c = there_as c.args.slot c.args.self.now.hosts.rows.rows.items c.requires.there
+
+pub invariant_of-self : goal.invariant_of-self
+invariant_of-self c =
+    let old = c.args.self.now in
+    record { linked = subst (λ hosts. AreLinked (tables_of old.l2.rows.items hosts old.groups.rows.rows.items old.routes.rows.items)) (sym c.cut-old.ensures.rows) (linked-without_host old.l2.rows.items old.hosts.rows.rows.items old.groups.rows.rows.items old.routes.rows.items old.linked c.args.slot old.hosts.rows.ascends c.requires.unused) }
+
+pub returns-clause-raw : goal.returns-clause-raw
+returns-clause-raw c =
+    let old = c.args.self.now in
+    raw-without_host old.l2.rows.items old.hosts.rows.rows.items c.cut-old.new.self.rows.rows.items old.groups.rows.rows.items old.routes.rows.items c.args.slot c.cut-old.ensures.rows
+
+pub returns-clause-old : goal.returns-clause-old
+returns-clause-old c = host_at-rows c.args.slot c.args.self.now.hosts.rows.rows.items ∙ c.cut-old.ensures.old

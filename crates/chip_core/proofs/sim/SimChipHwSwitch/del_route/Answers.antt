@@ -1,0 +1,14 @@
+use Rattle.std.proofs.Common.{◌∙◌, sym, subst, ap}
+use Rattle.keyed.specs.Keyed.{without, Ascends}
+use Rattle.net_types.specs.Derived.{route-derived}
+use Rattle.chip_core.specs.Chip.{AreLinked}
+use Rattle.chip_core.specs.LinkLaws.{linked-without_route}
+use Rattle.chip_core.specs.Sim.{tables_of}
+use Rattle.chip_core.proofs.sim.SimChipHwSwitch.del_route.Goals as goal
+
+pub invariant_of-self : goal.invariant_of-self
+invariant_of-self c =
+    let old = c.args.self.now in
+    let is = c.cut-old.ensures.rows ∙ ap (λ cmp. without cmp c.args.key.now old.routes.rows.items) route-derived in
+    let asc = subst (λ cmp. Ascends cmp old.routes.rows.items) route-derived old.routes.ascends in
+    record { linked = subst (λ routes. AreLinked (tables_of old.l2.rows.items old.hosts.rows.rows.items old.groups.rows.rows.items routes)) (sym is) (linked-without_route old.l2.rows.items old.hosts.rows.rows.items old.groups.rows.rows.items old.routes.rows.items old.linked c.args.key.now asc) }

@@ -1,0 +1,19 @@
+use Rattle.std.proofs.Common.{◌≡◌, Option, Some, List, sym, subst}
+use Rattle.std.specs.Option.{option_map}
+use Rattle.std.specs.Ordering.{nat_cmp}
+use Rattle.net_types.specs.declared.group.Member.{Member}
+use Rattle.keyed.specs.Keyed.{at}
+use Rattle.chip_core.specs.Chip.{AreLinked}
+use Rattle.chip_core.specs.LinkLaws.{linked-set_group}
+use Rattle.chip_core.specs.Sim.{tables_of}
+use Rattle.chip_core.specs.Slots.{hosts_of}
+use Rattle.chip_core.proofs.sim.SimChipHwSwitch.set_group.Goals as goal
+
+same_hosts : (o : Option (List Member)) (before row : List Member) → option_map hosts_of o ≡ Some (hosts_of row) → o ≡ Some before → hosts_of row ≡ hosts_of before
+same_hosts o before row named is = let both : Some (hosts_of before) ≡ Some (hosts_of row) = rw is at named in cc
+
+pub invariant_of-self : goal.invariant_of-self
+invariant_of-self c =
+    let old = c.args.self.now in
+    let same = same_hosts (at nat_cmp c.args.slot old.groups.rows.rows.items) c.set-old.result c.args.row c.requires c.set-old.ensures.old in
+    record { linked = subst (λ groups. AreLinked (tables_of old.l2.rows.items old.hosts.rows.rows.items groups old.routes.rows.items)) (sym c.set-old.ensures.rows) (linked-set_group old.l2.rows.items old.hosts.rows.rows.items old.groups.rows.rows.items old.routes.rows.items old.linked c.args.slot c.set-old.result c.args.row c.set-old.ensures.old same) }

@@ -1,0 +1,40 @@
+-- One table of the chip in memory.
+use Rattle.std.specs.Prelude.{◌≤◌, ◌<◌, ℕ, All, IsSome, List, [], length, nat_eq}
+use Rattle.std.specs.List.{IsDistinct}
+use Rattle.std.specs.Ordering.{nat_cmp}
+use Rattle.std.specs.declared.cmp.Ordering.{Ordering}
+use Rattle.keyed.specs.Keyed.{at, Ascends}
+use Rattle.keyed.specs.Named.{AreDistinct}
+use Rattle.net_types.specs.Groups.{IsGroupLength}
+use Rattle.net_types.specs.declared.group.Member.{Member}
+use Rattle.net_types.specs.declared.table.RouteKey.{RouteKey}
+use Rattle.net_types.specs.declared.table.RouteRow.{RouteRow}
+use Rattle.chip_core.specs.References.{IsRouteHeld}
+use Rattle.chip_core.specs.Sim.{tables_of}
+use Rattle.chip_core.specs.Slots.{Groups, hosts_of}
+use Rattle.chip_core.specs.SlotsLaws.{Entries}
+
+-- a table by slot: slots ascend and lie below the capacity, and names are distinct
+pub record IsSlotted {N V : Type 0} (cmp : N → N → Ordering) (name : V → N) (capacity : ℕ) (rows : List (ℕ × V)) : Type 0 where
+  pub ascends : Ascends nat_cmp rows
+  pub distinct : AreDistinct cmp name rows
+  pub fits : length rows ≤ capacity
+  pub below : (slot : ℕ) → IsSome (at nat_cmp slot rows) → slot < capacity
+
+-- a table by key
+pub record IsSorted {K V : Type 0} (cmp : K → K → Ordering) (capacity : ℕ) (rows : List (K × V)) : Type 0 where
+  pub ascends : Ascends cmp rows
+  pub fits : length rows ≤ capacity
+
+-- a group has 2 to 64 members, and names no host twice
+pub record IsGroupRow (members : List Member) : Type 0 where
+  pub long : IsGroupLength (length members)
+  pub once : IsDistinct nat_eq (hosts_of members)
+
+-- each member's host is there
+abbrev pub MembersHeld : Entries → Groups → Type 0
+MembersHeld hosts groups = All (λ group. All (λ member. IsSome (at nat_cmp member.host hosts)) group.1) groups
+
+-- what each route leads to is there
+abbrev pub RoutesHeld : Entries → Groups → List (RouteKey × RouteRow) → Type 0
+RoutesHeld hosts groups routes = All (λ route. IsRouteHeld (tables_of [] hosts groups []) route.1) routes
