@@ -1,0 +1,26 @@
+//! Measures the calls of a chip in memory. With sizes as arguments it prints nanoseconds a call on
+//! tables of that many rows (and a sixteenth as many groups); with none it runs on a few rows, and
+//! prints how many calls found what they need.
+#![tactic(auto)]
+
+mod calls;
+mod keys;
+mod measure;
+mod runs;
+
+use crate::measure::run;
+use std::{env, io};
+
+fn main(rt: HostRuntime) -> io::Result<()> {
+    let mut is_measured = false;
+    for word in env::args(&rt)?.skip(1) {
+        if let Ok(count) = word.as_str().parse::<u32>() {
+            is_measured = true;
+            run(&rt, count.min(65536), true)?;
+        }
+    }
+    if !is_measured {
+        run(&rt, 32, false)?;
+    }
+    Ok(())
+}

@@ -1,0 +1,13 @@
+use Rattle.std.proofs.Common.{List, ◌∙◌, sym, ap}
+use Rattle.net_types.specs.KeyOrder.{host_cmp}
+use Rattle.net_types.specs.Rows.{Rows}
+use Rattle.net_types.specs.declared.table.HostKey.{HostKey}
+use Rattle.net_types.specs.declared.table.HostRow.{HostRow}
+use Rattle.chip_core.specs.Chip.{view_of}
+use Rattle.hw_undo.proofs.ChangeLaws.{without-absent}
+use Rattle.hw_undo.proofs.hosts.remove_row.Goals as goal
+
+pub returns-in-None-None-clause-view : goal.returns-in-None-None-clause-view
+returns-in-None-None-clause-view g c =
+    let rows : Rows = view_of (g.C.HwSwitch.raw c.args.chip.now) in
+    rw c.in-None-None.is-1 (ap (λ (l : List (HostKey × HostRow)). record rows { host = l }) (sym (without-absent host_cmp c.args.key.now rows.host (c.requires.old ∙ c.in-None-None.is-0))))

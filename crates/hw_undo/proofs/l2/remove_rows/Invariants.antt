@@ -1,0 +1,16 @@
+use Rattle.std.proofs.Common.{◌≡◌, drop}
+use Rattle.net_types.specs.KeyOrder.{l2_cmp}
+use Rattle.chip_core.specs.ChangeLists.{IsAscending}
+use Rattle.chip_core.specs.Changes.{AreOld, removes}
+use Rattle.chip_core.specs.Chip.{view_of}
+use Rattle.hw_undo.specs.Counts.{removals_in, sum_over}
+use Rattle.hw_undo.specs.Moments.{AreNotedBut, moment}
+use Rattle.hw_undo.proofs.l2.remove_rows.Given as goal
+
+abbrev pub invariant-loop-change : goal.invariant-loop-change
+invariant-loop-change g l = record {
+  goal : record (view_of (g.C.HwSwitch.raw l.chip)) { l2 = removes l2_cmp (drop l.change-index l.changes) (view_of (g.C.HwSwitch.raw l.chip)).l2 } ≡ record (view_of (g.C.HwSwitch.raw l.initial.chip)) { l2 = removes l2_cmp l.changes (view_of (g.C.HwSwitch.raw l.initial.chip)).l2 };
+  old : AreOld l2_cmp (drop l.change-index l.changes) (view_of (g.C.HwSwitch.raw l.chip)).l2;
+  ascending : IsAscending l2_cmp (drop l.change-index l.changes);
+  noted : AreNotedBut (sum_over removals_in (drop l.change-index l.changes)) (sum_over removals_in l.changes) (moment (g.C.HwSwitch.raw l.initial.chip) (g.C.HwSwitch.caps l.initial.chip) (g.C.HwSwitch.writes l.initial.chip) l.initial.log) (moment (g.C.HwSwitch.raw l.chip) (g.C.HwSwitch.caps l.chip) (g.C.HwSwitch.writes l.chip) l.log);
+}

@@ -1,0 +1,23 @@
+use Rattle.std.proofs.Common.{refl}
+use Rattle.net_types.specs.KeyOrder.{route_cmp, route_order}
+use Rattle.net_types.specs.Rows.{Rows}
+use Rattle.chip_core.specs.Chip.{view_of}
+use Rattle.hw_undo.specs.Counts.{old_rows_in}
+use Rattle.hw_undo.proofs.ChangeLaws.{dropped, cut-turn, sum-opened}
+use Rattle.hw_undo.proofs.Views.{sorted-view}
+use Rattle.hw_undo.proofs.RollBack.{but-turn}
+use Rattle.hw_undo.proofs.routes.remove_rows.Goals as goal
+
+pub loop-change-preserved : goal.loop-change-preserved
+loop-change-preserved g c =
+    let i = c.loop-change.invariant in
+    let first = dropped c.args.changes.now c.loop-change.change-index c.change-item.result c.loop-change-test.true c.change-item.is in
+    let before : Rows = view_of (g.C.HwSwitch.raw c.loop-change.chip) in
+    let sound = g.met.C.HwSwitch.sound c.loop-change.chip in
+    let next = cut-turn route_cmp route_order (λ rows. rows.route) (λ rows l. record rows { route = l }) (λ rows l. refl) (λ rows l m. refl) _ _ _ before _ _ first c.remove_row.ensures.view i.goal i.old i.ascending (sorted-view _ sound.rows).route in
+    record {
+      goal = next.goal;
+      old = next.old;
+      ascending = next.ascending;
+      noted = but-turn _ (sum-opened old_rows_in _ _ _ first) i.noted c.remove_row.ensures.noted;
+    }

@@ -1,0 +1,4 @@
+pub mod Counts
+pub mod Undo
+pub mod Moments
+pub mod Phases
