@@ -6,7 +6,7 @@ use Rattle.net_types.specs.declared.table.Caps.{Caps}
 use Rattle.net_types.specs.declared.table.L2Key.{L2Key}
 use Rattle.net_types.specs.declared.table.L2Row.{L2Row}
 use Rattle.net_types.specs.declared.table.Table.TheVariants.{L2}
-use Rattle.script_text.specs.Script.{IsActText, IsServed}
+use Rattle.agent_run.specs.Served.{IsServed}
 use Rattle.switch_model.specs.declared.act.Act.{Act}
 use Rattle.switch_model.specs.declared.act.Act.TheVariants.{VlanAdd, PortAdd, PortUp, PortDown, MacSet}
 use Rattle.switch_model.specs.declared.act.Update.{Update}
@@ -17,7 +17,7 @@ use Rattle.switch_model.specs.Effect.{effect}
 use Rattle.switch_model.specs.Rows.{rows}
 use Rattle.net_types.specs.Capacity.{over, Fits}
 use Rattle.switch_model.specs.Journal.{after_verdict}
-use Rattle.agent_run.specs.Kept.{IsBare}
+use Rattle.agent_run.specs.Bare.{IsBare}
 
 abbrev pub l2_rows : List (L2Key × L2Row) → Rows
 l2_rows l = record { l2 = l; host = []; group = []; route = [] }
@@ -25,7 +25,7 @@ l2_rows l = record { l2 = l; host = []; group = []; route = [] }
 pub bare_rows : (m : PlainState) → IsBare m → rows m ≡ l2_rows (rows m).l2
 bare_rows m bare = λ i. rows (record m { intfs = bare.0 i; neighbors = bare.1 i; routes = bare.2 i })
 
--- no act of a script makes an interface, a neighbour or a route
+-- no act that is built makes an interface, a neighbour or a route
 pub bare_effect : (m : PlainState) (act : Act) → IsServed act → IsBare m → IsBare (effect m act)
 bare_effect m (VlanAdd vlan name) served bare = bare
 bare_effect m (PortAdd port vlan) served bare = bare
@@ -38,14 +38,6 @@ pub bare_after : (m : PlainState) (update : Update) (verdict : Verdict) → IsSe
 bare_after m update Accepted served bare = bare_effect m update.act served bare
 bare_after m update (Invalid r) served bare = bare
 bare_after m update (Full t) served bare = bare
-
-pub served_text : (act : Act) (text : List ℕ) → IsActText act text → IsServed act
-served_text (VlanAdd vlan name) text is = tt
-served_text (PortAdd port vlan) text is = tt
-served_text (PortUp port) text is = tt
-served_text (PortDown port) text is = tt
-served_text (MacSet vlan mac port) text is = tt
-served_text _ text is = absurd is
 
 -- rows of the l2 table that have room there have room everywhere
 pub l2_fits : (l : List (L2Key × L2Row)) (caps : Caps) → nat_lt caps.l2 (length l) ≡ false → Fits (l2_rows l) caps

@@ -18,7 +18,7 @@ use Rattle.net_types.specs.declared.table.L2Row.{L2Row}
 use Rattle.switch_model.specs.declared.record.MacRec.{MacRec}
 use Rattle.switch_model.specs.PlainState.{PlainState, port_at}
 use Rattle.switch_model.specs.Rows.{is_up, l2_row, rows}
-use Rattle.agent_run.specs.Kept.{IsBare}
+use Rattle.agent_run.specs.Bare.{IsBare}
 use Rattle.agent_run.specs.Changed.{is_row, is_changed, changed}
 use Rattle.agent_run.proofs.BareLaws.{l2_rows}
 use Rattle.agent_run.proofs.RowLaws.{programmed, flipped, row_there, row_other}

@@ -3,8 +3,11 @@ mod Counting
 mod FlipLaws
 mod IndexLaws
 mod JournalLaws
+mod GroundLaws
 mod KeptLaws
+mod LoadLaws
 mod Marking
+mod PlanLaws
 mod ReachedLaws
 mod ReportLaws
 mod RowLaws

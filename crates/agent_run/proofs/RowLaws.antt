@@ -29,7 +29,7 @@ use Rattle.switch_model.specs.First.{first_that_holds}
 use Rattle.switch_model.specs.Reason.{reason, reasons}
 use Rattle.switch_model.specs.PlainState.{PlainState, port_at}
 use Rattle.switch_model.specs.Rows.{is_up, l2_row, rows}
-use Rattle.agent_run.specs.Kept.{IsBare}
+use Rattle.agent_run.specs.Bare.{IsBare}
 use Rattle.agent_run.proofs.BareLaws.{l2_rows, bare_rows, fits_unless_over}
 
 pub with_values-alike : {K V W : Type 0} (f g : V → W) → ((v : V) → f v ≡ g v) → (l : List (K × V)) → with_values f l ≡ with_values g l
@@ -108,7 +108,7 @@ stands m key port up raw row bare in_step is there same =
     programmed m key port up raw raw bare in_step is (ap (λ (l : List (L2Key × L2Row)). record raw { l2 = l }) (sym (put_same key (record { port = port; up = up }) raw.l2 there2)))
 
 -- which rows are over the capacity
-is_over : (r : Rows) (caps : Caps) → caps.l2 < length r.l2 → over r caps ≡ Some L2
+pub is_over : (r : Rows) (caps : Caps) → caps.l2 < length r.l2 → over r caps ≡ Some L2
 is_over r caps lt = rw (lt-ltb _ _ lt) refl
 
 -- of the tables over their capacity the l2 table is the first

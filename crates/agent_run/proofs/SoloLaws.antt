@@ -1,13 +1,12 @@
--- The run of one caller's lines, each settled by itself.
+-- The run of one caller's updates, each settled by itself.
 use Rattle.std.proofs.Common.{◌≡◌, ◌==◌, ◌≤◌, ◌<◌, ◌+◌, ℕ, false, nat_lt, Some, List, [], ◌∷◌, ◌++◌, length, take, drop, slice_get, inl, inr, refl, sym, ap, subst, ◌∙◌, append-nil, drop_at, lit≤, arith}
 use Rattle.std.proofs.lemmas.Bool.{cases_Bool, cond-true, cond-false, lt-ltb, le-ltb, ltb-true, ltb-false, eq-eqb}
 use Rattle.std.proofs.lemmas.List.{length_push}
 use Rattle.std.proofs.lemmas.List.Elements.{filter-append}
 use Rattle.std.specs.List.{AllByRecursion}
 use Rattle.net_types.specs.declared.table.Caps.{Caps}
-use Rattle.script_text.specs.declared.script.Line.{Line}
-use Rattle.script_text.specs.declared.script.Script.{Script}
-use Rattle.script_text.specs.Script.{IsScript, AreLines}
+use Rattle.agent_run.specs.declared.plan.Task.{Task}
+use Rattle.agent_run.specs.declared.plan.Plan.{Plan}
 use Rattle.switch_model.specs.declared.act.Submission.{Submission}
 use Rattle.switch_model.specs.declared.journal.Entry.{Entry}
 use Rattle.switch_model.specs.declared.journal.Round.{Round}
@@ -15,14 +14,13 @@ use Rattle.switch_model.specs.declared.reply.Reply.{Reply}
 use Rattle.switch_model.specs.PlainState.{PlainState}
 use Rattle.switch_model.specs.Rows.{rows}
 use Rattle.net_types.specs.Capacity.{Fits}
-use Rattle.switch_model.specs.Journal.{Journal, entries, fold, version_of, own, strip, with_round}
+use Rattle.switch_model.specs.Journal.{Opening, Journal, entries, fold, version_of, own, strip, with_round}
 use Rattle.switch_model.specs.Round.{run, next_round}
 use Rattle.switch_model.specs.Reached.{Reached, SettlesNext, AllSettleNext}
-use Rattle.agent_run.specs.Solo.{Course, pending, submission, submit, refuse, reply_of, reply_at, step, solo, started, course_of}
+use Rattle.agent_run.specs.Solo.{Course, pending, submission, submit, refuse, reply_of, reply_at, step, solo, cold, started, course_of}
 use Rattle.agent_run.specs.Single.{single, with_single, IsPlain, IsCourse}
-use Rattle.agent_run.proofs.BareLaws.{served_text}
 use Rattle.agent_run.proofs.JournalLaws.{entries_push, fold_push, strip_push, length-strip, slice_get_seam}
-use Rattle.agent_run.proofs.SettledLaws.{empty_fits, run_single, settled_single, single_right, single_fits}
+use Rattle.agent_run.proofs.SettledLaws.{run_single, settled_single, single_right, single_fits}
 use Rattle.agent_run.proofs.ReachedLaws.{legal_push, all_settle_grow, all_settle_push}
 
 -- the round that comes next, where nothing but that submission is pending
@@ -53,28 +51,28 @@ reply_at_push j r e k is at =
     ∙ ap (reply_of k (k + 1)) there
 
 -- the course after a line within the limit
-submit_single : (c : Course) (line : Line) → c.sent ≡ strip c.journal → Fits (rows (fold c.journal)) c.journal.opening.caps → line.update.alone ≡ false → submit c line ≡ with_single (fold c.journal) (version_of c.journal) c.journal.opening.caps c line
-submit_single c line all fits apart =
-    let s = submission c.sent line in
-    ap (λ (r : Round). let j = with_round c.journal r in let after : Course = record { sent = c.sent ++ s ∷ []; journal = j; replies = c.replies ++ (line.line, reply_at j (length c.sent)) ∷ [] } in after) (next_round_single c.sent c.journal s all apart fits)
-    ∙ ap (λ (r : Reply). let after : Course = record { sent = c.sent ++ s ∷ []; journal = with_round c.journal (next_single c.journal s); replies = c.replies ++ (line.line, r) ∷ [] } in after) (reply_at_push c.journal (next_single c.journal s) _ (length c.sent) refl (settled_length c.sent c.journal all))
+submit_single : (c : Course) (task : Task) → c.sent ≡ strip c.journal → Fits (rows (fold c.journal)) c.journal.opening.caps → task.update.alone ≡ false → submit c task ≡ with_single (fold c.journal) (version_of c.journal) c.journal.opening.caps c task
+submit_single c task all fits apart =
+    let s = submission c.sent task in
+    ap (λ (r : Round). let j = with_round c.journal r in let after : Course = record { sent = c.sent ++ s ∷ []; journal = j; replies = c.replies ++ (task.line, reply_at j (length c.sent)) ∷ [] } in after) (next_round_single c.sent c.journal s all apart fits)
+    ∙ ap (λ (r : Reply). let after : Course = record { sent = c.sent ++ s ∷ []; journal = with_round c.journal (next_single c.journal s); replies = c.replies ++ (task.line, r) ∷ [] } in after) (reply_at_push c.journal (next_single c.journal s) _ (length c.sent) refl (settled_length c.sent c.journal all))
 
 -- a line within the limit is settled by itself: m, v and caps are the state, the version and the capacities that a run holds
-pub step_settles : (limit : ℕ) (c : Course) (line : Line) (m : PlainState) (v : ℕ) (caps : Caps) → IsCourse limit c → m ≡ fold c.journal → v ≡ version_of c.journal → caps ≡ c.journal.opening.caps → length c.sent < limit → line.update.alone ≡ false → step limit c line ≡ with_single m v caps c line
-step_settles limit c line m v caps kept is_state is_version are_caps room apart =
-    cond-true (nat_lt (length c.sent) limit) (submit c line) (refuse c line) (lt-ltb (length c.sent) limit room)
-    ∙ submit_single c line kept.settled kept.fits apart
-    ∙ ap (λ (n : PlainState). with_single n (version_of c.journal) c.journal.opening.caps c line) (sym is_state)
-    ∙ ap (λ (w : ℕ). with_single m w c.journal.opening.caps c line) (sym is_version)
-    ∙ ap (λ (k : Caps). with_single m v k c line) (sym are_caps)
+pub step_settles : (limit : ℕ) (c : Course) (task : Task) (m : PlainState) (v : ℕ) (caps : Caps) → IsCourse limit c → m ≡ fold c.journal → v ≡ version_of c.journal → caps ≡ c.journal.opening.caps → length c.sent < limit → task.update.alone ≡ false → step limit c task ≡ with_single m v caps c task
+step_settles limit c task m v caps kept is_state is_version are_caps room apart =
+    cond-true (nat_lt (length c.sent) limit) (submit c task) (refuse c task) (lt-ltb (length c.sent) limit room)
+    ∙ submit_single c task kept.settled kept.fits apart
+    ∙ ap (λ (n : PlainState). with_single n (version_of c.journal) c.journal.opening.caps c task) (sym is_state)
+    ∙ ap (λ (w : ℕ). with_single m w c.journal.opening.caps c task) (sym is_version)
+    ∙ ap (λ (k : Caps). with_single m v k c task) (sym are_caps)
 
 -- a line past the limit is refused
-pub step_refuses : (limit : ℕ) (c : Course) (line : Line) → limit ≤ length c.sent → step limit c line ≡ refuse c line
-step_refuses limit c line full = cond-false (nat_lt (length c.sent) limit) (submit c line) (refuse c line) (le-ltb (length c.sent) limit full)
+pub step_refuses : (limit : ℕ) (c : Course) (task : Task) → limit ≤ length c.sent → step limit c task ≡ refuse c task
+step_refuses limit c task full = cond-false (nat_lt (length c.sent) limit) (submit c task) (refuse c task) (le-ltb (length c.sent) limit full)
 
 -- the number of caller 0's next update
-pub own_number : (sent : List Submission) (line : Line) → own 0 sent ≡ sent → line.caller ≡ 0 → (submission sent line).seq ≡ length sent
-own_number sent line mine is = ap (λ (k : ℕ). length (own k sent)) is ∙ ap length mine
+pub own_number : (sent : List Submission) (task : Task) → own 0 sent ≡ sent → task.caller ≡ 0 → (submission sent task).seq ≡ length sent
+own_number sent task mine is = ap (λ (k : ℕ). length (own k sent)) is ∙ ap length mine
 
 own_push : (sent : List Submission) (s : Submission) → own 0 sent ≡ sent → s.caller ≡ 0 → own 0 (sent ++ s ∷ []) ≡ sent ++ s ∷ []
 own_push sent s mine is =
@@ -100,9 +98,9 @@ reached_push j s old fits apart =
     }
 
 -- the course after it is one too
-pub single_kept : (limit : ℕ) (c : Course) (line : Line) → IsCourse limit c → IsPlain line → length c.sent < limit → IsCourse limit (with_single (fold c.journal) (version_of c.journal) c.journal.opening.caps c line)
-single_kept limit c line kept plain room =
-    let s = submission c.sent line in
+pub single_kept : (limit : ℕ) (c : Course) (task : Task) → IsCourse limit c → IsPlain task → length c.sent < limit → IsCourse limit (with_single (fold c.journal) (version_of c.journal) c.journal.opening.caps c task)
+single_kept limit c task kept plain room =
+    let s = submission c.sent task in
     record {
       settled = ap (λ (l : List Submission). l ++ s ∷ []) kept.settled ∙ sym (strip_push c.journal (next_single c.journal s));
       own = own_push c.sent s kept.own plain.caller;
@@ -111,34 +109,23 @@ single_kept limit c line kept plain room =
       within = omega (arith, length_push c.sent s, room);
     }
 
-pub refuse_kept : (limit : ℕ) (c : Course) (line : Line) → IsCourse limit c → IsCourse limit (refuse c line)
-refuse_kept limit c line kept = record { settled = kept.settled; own = kept.own; reached = kept.reached; fits = kept.fits; within = kept.within }
+pub refuse_kept : (limit : ℕ) (c : Course) (task : Task) → IsCourse limit c → IsCourse limit (refuse c task)
+refuse_kept limit c task kept = record { settled = kept.settled; own = kept.own; reached = kept.reached; fits = kept.fits; within = kept.within }
 
-pub step_kept : (limit : ℕ) (c : Course) (line : Line) → IsCourse limit c → IsPlain line → IsCourse limit (step limit c line)
-step_kept limit c line kept plain = elim (cases_Bool (nat_lt (length c.sent) limit)) [
-  | inl less ↦ let room = ltb-true (length c.sent) limit less in subst (IsCourse limit) (sym (step_settles limit c line _ _ _ kept refl refl refl room plain.apart)) (single_kept limit c line kept plain room)
-  | inr not_less ↦ subst (IsCourse limit) (sym (step_refuses limit c line (ltb-false (length c.sent) limit not_less))) (refuse_kept limit c line kept)
+pub step_kept : (limit : ℕ) (c : Course) (task : Task) → IsCourse limit c → IsPlain task → IsCourse limit (step limit c task)
+step_kept limit c task kept plain = elim (cases_Bool (nat_lt (length c.sent) limit)) [
+  | inl less ↦ let room = ltb-true (length c.sent) limit less in subst (IsCourse limit) (sym (step_settles limit c task _ _ _ kept refl refl refl room plain.apart)) (single_kept limit c task kept plain room)
+  | inr not_less ↦ subst (IsCourse limit) (sym (step_refuses limit c task (ltb-false (length c.sent) limit not_less))) (refuse_kept limit c task kept)
 ]
 
-pub solo_kept : (limit : ℕ) (c : Course) (lines : List Line) → IsCourse limit c → AllByRecursion IsPlain lines → IsCourse limit (solo limit c lines)
+pub solo_kept : (limit : ℕ) (c : Course) (tasks : List Task) → IsCourse limit c → AllByRecursion IsPlain tasks → IsCourse limit (solo limit c tasks)
 solo_kept limit c [] kept plain = kept
-solo_kept limit c (line ∷ lines) kept plain = solo_kept limit (step limit c line) lines (step_kept limit c line kept plain.0) plain.1
+solo_kept limit c (task ∷ tasks) kept plain = solo_kept limit (step limit c task) tasks (step_kept limit c task kept plain.0) plain.1
 
 -- nothing has been submitted yet
-pub started_kept : (limit : ℕ) (caps : Caps) → IsCourse limit (started caps)
-started_kept limit caps =
-    record { settled = refl; own = refl; reached = record { legal = (empty_fits caps, tt); settled = ([], refl); rounds = tt }; fits = empty_fits caps; within = omega arith }
+pub started_kept : (limit : ℕ) (o : Opening) → Fits (rows o.state) o.caps → IsCourse limit (started o)
+started_kept limit o fits = record { settled = refl; own = refl; reached = record { legal = (fits, tt); settled = ([], refl); rounds = tt }; fits = fits; within = omega arith }
 
-lines_plain : (number : ℕ) (lines : List Line) (text : List ℕ) → AreLines number lines text → AllByRecursion IsPlain lines
-lines_plain number [] text are = tt
-lines_plain number (line ∷ lines) text are = (record { caller = are.3.0; apart = are.3.1; served = served_text line.update.act are.3.2 are.3.3 }, lines_plain (number + 1) lines are.2 are.4)
-
--- the lines of a script are of caller 0, and none is to be alone
-pub script_plain : (bytes : List ℕ) (script : Script) → IsScript bytes script → AllByRecursion IsPlain script.lines
-script_plain bytes script is = elim is.3 [
-  | inl none ↦ subst (AllByRecursion IsPlain) (sym none.0) tt
-  | inr some ↦ lines_plain 5 script.lines some.0 some.1
-]
-
-pub course_kept : (bytes : List ℕ) (script : Script) → IsScript bytes script → IsCourse script.limit (course_of script)
-course_kept bytes script is = solo_kept script.limit (started script.caps) script.lines (started_kept script.limit script.caps) (script_plain bytes script is)
+-- the run of updates of caller 0 after a base whose rows fit
+pub course_kept : (base : PlainState) (plan : Plan) → Fits (rows base) plan.caps → AllByRecursion IsPlain plan.tasks → IsCourse plan.limit (course_of base plan)
+course_kept base plan fits plain = solo_kept plan.limit (started (cold plan.caps base)) plan.tasks (started_kept plan.limit (cold plan.caps base) fits) plain

@@ -7,7 +7,12 @@ use Rattle.std.specs.Io.KnownBytes.{Appends}
 use Rattle.io_edge.specs.Causes.{Rose, HasCause, WholeInput, ReadsFront, AppendsFront, Writes}
 use Rattle.agent_run.specs.declared.status.Status.{Status}
 use Rattle.agent_run.specs.declared.status.Status.TheVariants as status
-use Rattle.agent_run.specs.Top.{Outside, Served, Answered, Reported, CutShort, Refused, WritesNothing, IsRunCommand, ReadsAll, IsComplete, NoScript, longest_script}
+use Rattle.agent_run.specs.declared.refusal.Refusal.{Refusal}
+use Rattle.agent_run.specs.declared.refusal.Refusal.TheVariants.{Byte, Word, NotBuilt, Base, Opening}
+use Rattle.agent_run.specs.declared.refusal.RunFault.{RunFault}
+use Rattle.agent_run.specs.declared.refusal.RunFault.TheVariants as run
+use Rattle.agent_run.specs.Refusal.{refusal_line, status_of}
+use Rattle.agent_run.specs.Top.{Outside, Served, Answered, Declined, Reported, CutShort, Refused, IsRefused, IsRefusedAs, IsRunnable, OrNoMemory, WritesNothing, IsRunCommand, ReadsAll, IsComplete, longest_script}
 
 pub one_word : {S : Type 0} (bytes : S → List ℕ) (xs : List S) (x : S) (text word : List ℕ) (r : Bool) → length xs ≡ 1 → x ≡ get_or xs 0 x → text ≡ bytes x → r ≡ pointwise eqb text word → Decides r (map bytes xs ≡ word ∷ [])
 one_word bytes [] x text word r one at is test = absurd (omega arith)
@@ -32,16 +37,19 @@ front_within (Some xs) (Some ys) count all front is =
     let same : xs ≡ all = cc in
     omega (arith, front.counted, length-append front.front ys, ap length front.bytes, ap length same)
 
+-- what can be run isn't refused
+no_refusal : (answer : Status) (words : List (List ℕ)) (old new : Outside) (input : List ℕ) → Refused answer old.left new.left old.written new.written old.write_faults new.write_faults → old.left ≡ Some input → IsRunnable input → ⊥
+no_refusal answer words old new input refused left can = refused.3.1 (subst IsRunnable (sym (whole_is old.left new.left refused.0 input refused.2.0 left)) can)
+
 pub served_complete : (words : List (List ℕ)) (old new : Outside) (answer : Status) → Served words old new answer → IsComplete words old.left answer (Rose old.read_faults new.read_faults) (Rose old.write_faults new.write_faults)
-served_complete words old new status.Done served = λ input script run left within is no_read no_write. inl refl
-served_complete words old new status.NoMemory served = λ input script run left within is no_read no_write. inr refl
-served_complete words old new status.Words served = λ input script run left within is no_read no_write. absurd (served.0 run)
-served_complete words old new status.ReadFault served = λ input script run left within is no_read no_write. absurd (no_read served.1)
-served_complete words old new status.WriteFault served = λ input script run left within is no_read no_write. absurd (no_write served.1)
-served_complete words old new status.Script served = λ input script run left within is no_read no_write.
-    let refused = served.1 in
-    absurd (subst NoScript (whole_is old.left new.left refused.0 input refused.1.0 left) refused.2 script is)
-served_complete words old new status.TooLong served = λ input script run left within is no_read no_write.
+served_complete words old new status.Done served = λ input is_run left within is no_read no_write. inl refl
+served_complete words old new status.NoMemory served = λ input is_run left within is no_read no_write. inr refl
+served_complete words old new status.Words served = λ input is_run left within is no_read no_write. absurd (served.0 is_run)
+served_complete words old new status.ReadFault served = λ input is_run left within is no_read no_write. absurd (no_read served.1)
+served_complete words old new status.WriteFault served = λ input is_run left within is no_read no_write. absurd (no_write served.1)
+served_complete words old new status.Script served = λ input is_run left within is no_read no_write. absurd (no_refusal status.Script words old new input served.1 left is)
+served_complete words old new status.OpeningFull served = λ input is_run left within is no_read no_write. absurd (no_refusal status.OpeningFull words old new input served.1 left is)
+served_complete words old new status.TooLong served = λ input is_run left within is no_read no_write.
     absurd (omega (arith, within, front_within old.left new.left (longest_script + 1) input served.1 left))
 
 pub served_done : (words : List (List ℕ)) (old new : Outside) (answer : Status) → Served words old new answer → answer ≡ status.Done → Reported old.left new.left old.written new.written
@@ -51,6 +59,7 @@ pub served_words : (words : List (List ℕ)) (old new : Outside) (answer : Statu
 served_words words old new status.Words served other = refl
 served_words words old new status.Done served other = absurd (other served.0)
 served_words words old new status.Script served other = absurd (other served.0)
+served_words words old new status.OpeningFull served other = absurd (other served.0)
 served_words words old new status.ReadFault served other = absurd (other served.0)
 served_words words old new status.WriteFault served other = absurd (other served.0)
 served_words words old new status.NoMemory served other = absurd (other served.0)
@@ -59,8 +68,11 @@ served_words words old new status.TooLong served other = absurd (other served.0)
 pub served_misused : (words : List (List ℕ)) (old new : Outside) (answer : Status) → Served words old new answer → answer ≡ status.Words → (IsRunCommand words → ⊥) × Writes old.written new.written old.write_faults new.write_faults (codes "error: words\n") × (new.left ≡ old.left)
 served_misused words old new answer served is = subst (Served words old new) is served
 
-pub served_script : (words : List (List ℕ)) (old new : Outside) (answer : Status) → Served words old new answer → answer ≡ status.Script → Refused old.left new.left old.written new.written old.write_faults new.write_faults
+pub served_script : (words : List (List ℕ)) (old new : Outside) (answer : Status) → Served words old new answer → answer ≡ status.Script → Refused status.Script old.left new.left old.written new.written old.write_faults new.write_faults
 served_script words old new answer served is = (subst (Served words old new) is served).1
+
+pub served_full : (words : List (List ℕ)) (old new : Outside) (answer : Status) → Served words old new answer → answer ≡ status.OpeningFull → Refused status.OpeningFull old.left new.left old.written new.written old.write_faults new.write_faults
+served_full words old new answer served is = (subst (Served words old new) is served).1
 
 pub served_read_fault : (words : List (List ℕ)) (old new : Outside) (answer : Status) → Served words old new answer → answer ≡ status.ReadFault → Rose old.read_faults new.read_faults
 served_read_fault words old new answer served is = (subst (Served words old new) is served).1
@@ -76,21 +88,74 @@ served_nothing words old new status.Done served = tt
 served_nothing words old new status.Words served = tt
 served_nothing words old new status.Script served = tt
 served_nothing words old new status.WriteFault served = tt
+served_nothing words old new status.OpeningFull served = tt
 served_nothing words old new status.ReadFault served = served.2
 served_nothing words old new status.NoMemory served = served.1
 served_nothing words old new status.TooLong served = served.2
 
 -- what was done for the whole input
 pub served_answer : (words : List (List ℕ)) (input : List ℕ) (old new : Outside) (answer : Status) → IsRunCommand words → ReadsAll old.left new.left input → Answered input old.written new.written old.write_faults new.write_faults answer → Served words old new answer
-served_answer words input old new status.Done run all done = (run, (input, done.0, done.1, all, done.2, done.3, done.4))
-served_answer words input old new status.Script run all done = (run, (input, all, done.0, done.1))
-served_answer words input old new status.WriteFault run all done = let it = done.1 in (run, done.0, (input, it.0, it.1, all, it.2, it.3, it.4))
-served_answer words input old new status.NoMemory run all done = (run, done)
-served_answer words input old new status.Words run all done = absurd done
-served_answer words input old new status.ReadFault run all done = absurd done
-served_answer words input old new status.TooLong run all done = absurd done
+served_answer words input old new status.Done is_run all done = (is_run, (input, done.0, all, done.1, done.2))
+served_answer words input old new status.Script is_run all done = (is_run, (input, done.0, all, done.1, done.2))
+served_answer words input old new status.OpeningFull is_run all done = (is_run, (input, done.0, all, done.1, done.2))
+served_answer words input old new status.WriteFault is_run all done = let it = done.1 in (is_run, done.0, (input, it.0, all, it.1, it.2))
+served_answer words input old new status.NoMemory is_run all done = (is_run, done)
+served_answer words input old new status.Words is_run all done = absurd done
+served_answer words input old new status.ReadFault is_run all done = absurd done
+served_answer words input old new status.TooLong is_run all done = absurd done
 
 -- a line that was to be written
 pub writes_line : {A E : Type 0} (r : Result A E) (old new : Option (List ℕ)) (before now : ℕ) (text : List ℕ) → OnOk r (Appends old new text) → OnErr r (AppendsFront old new text) → HasCause before now r → Writes old new before now text
 writes_line (Ok x) old new before now text all front cause = inl all
 writes_line (Err e) old new before now text all front cause = inr (front, cause.failed)
+
+-- a refusal has one of two statuses
+abbrev IsRefusing : Status → Type 0
+IsRefusing status.Script = Unit {0}
+IsRefusing status.OpeningFull = Unit {0}
+IsRefusing answer = ⊥
+
+one_of_two : (refusal : Refusal) → IsRefusing (status_of refusal)
+one_of_two (Byte line) = tt
+one_of_two (Word line word) = tt
+one_of_two NotBuilt = tt
+one_of_two (Base line reason) = tt
+one_of_two (Opening table) = tt
+
+refusing : (refusal : Refusal) (answer : Status) → answer ≡ status_of refusal → IsRefusing answer
+refusing refusal answer is = subst IsRefusing (sym is) (one_of_two refusal)
+
+-- an error line that was to be written
+pub declined : {A E : Type 0} (r : Result A E) (old new : Option (List ℕ)) (before now : ℕ) (refusal : Refusal) (line : List ℕ) (answer : Status) → line ≡ refusal_line refusal → answer ≡ status_of refusal → OnOk r (Appends old new line) → OnErr r (AppendsFront old new line) → HasCause before now r → Declined refusal old new before now answer
+declined r old new before now refusal line answer line_is answer_is all front cause =
+    let written : Writes old new before now (refusal_line refusal) = subst (Writes old new before now) line_is (writes_line r old new before now line all front cause) in
+    told answer answer_is written
+  where
+    told : (answer : Status) → answer ≡ status_of refusal → Writes old new before now (refusal_line refusal) → Declined refusal old new before now answer
+    told status.Done is written = (is, written)
+    told status.Words is written = (is, written)
+    told status.Script is written = (is, written)
+    told status.ReadFault is written = (is, written)
+    told status.WriteFault is written = (is, written)
+    told status.TooLong is written = (is, written)
+    told status.OpeningFull is written = (is, written)
+    told status.NoMemory is written = absurd (refusing refusal status.NoMemory is)
+
+-- a refusal as an answer
+pub refused_answer : (bytes : List ℕ) (refusal : Refusal) (old new : Option (List ℕ)) (before now : ℕ) (answer : Status) → IsRefused bytes refusal → (IsRunnable bytes → ⊥) → Declined refusal old new before now answer → Answered bytes old new before now answer
+refused_answer bytes refusal old new before now status.Script is never told = (refusal, (is, never, told.0), told.1)
+refused_answer bytes refusal old new before now status.OpeningFull is never told = (refusal, (is, never, told.0), told.1)
+refused_answer bytes refusal old new before now status.NoMemory is never told = told
+refused_answer bytes refusal old new before now status.Done is never told = absurd (refusing refusal status.Done told.0)
+refused_answer bytes refusal old new before now status.Words is never told = absurd (refusing refusal status.Words told.0)
+refused_answer bytes refusal old new before now status.ReadFault is never told = absurd (refusing refusal status.ReadFault told.0)
+refused_answer bytes refusal old new before now status.WriteFault is never told = absurd (refusing refusal status.WriteFault told.0)
+refused_answer bytes refusal old new before now status.TooLong is never told = absurd (refusing refusal status.TooLong told.0)
+
+pub fault_answer : (bytes : List ℕ) (fault : RunFault) (refusal : Refusal) (old new : Option (List ℕ)) (before now : ℕ) (answer : Status) → fault ≡ run.Refused refusal → OrNoMemory (IsRefused bytes) fault → (IsRunnable bytes → fault ≡ run.NoMemory) → Declined refusal old new before now answer → Answered bytes old new before now answer
+fault_answer bytes fault refusal old new before now answer is given only told =
+    let never : IsRunnable bytes → ⊥ = λ can. not_memory refusal (sym is ∙ only can) in
+    refused_answer bytes refusal old new before now answer (subst (OrNoMemory (IsRefused bytes)) is given) never told
+  where
+    not_memory : (refusal : Refusal) → run.Refused refusal ≡ run.NoMemory → ⊥
+    not_memory refusal e = cc

@@ -11,3 +11,4 @@ code_of status.ReadFault = 4
 code_of status.WriteFault = 5
 code_of status.NoMemory = 8
 code_of status.TooLong = 9
+code_of status.OpeningFull = 10

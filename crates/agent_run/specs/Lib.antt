@@ -1,5 +1,10 @@
 pub mod Changed
 pub mod Code
+pub mod Bare
+pub mod Served
+pub mod Plan
+pub mod Ground
+pub mod Refusal
 pub mod Kept
 pub mod Single
 pub mod Solo

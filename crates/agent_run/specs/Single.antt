@@ -1,8 +1,8 @@
--- Lines of one caller, of which each is settled by itself.
+-- Updates of one caller, of which each is settled by itself.
 use Rattle.std.specs.Prelude.{ℕ, false, ◌≡◌, ◌≤◌, ◌+◌, [], ◌∷◌, ◌++◌, length}
 use Rattle.net_types.specs.declared.table.Caps.{Caps}
-use Rattle.script_text.specs.declared.script.Line.{Line}
-use Rattle.script_text.specs.Script.{IsServed}
+use Rattle.agent_run.specs.declared.plan.Task.{Task}
+use Rattle.agent_run.specs.Served.{IsServed}
 use Rattle.switch_model.specs.declared.act.Submission.{Submission}
 use Rattle.switch_model.specs.declared.act.Update.{Update}
 use Rattle.switch_model.specs.declared.journal.Round.{Round}
@@ -49,10 +49,10 @@ abbrev pub single_reply : PlainState → ℕ → Caps → Update → ℕ → Rep
 single_reply m v caps update settled = let verdict = verdict_on m caps update in Settled settled verdict (version_by v verdict) (settled + 1)
 
 -- one more update is submitted and settled by itself, after that state and version
-abbrev pub with_single : PlainState → ℕ → Caps → Course → Line → Course
-with_single m v caps c line =
-    let s = submission c.sent line in
-    record { sent = c.sent ++ s ∷ []; journal = with_round c.journal (single m v caps s); replies = c.replies ++ (line.line, single_reply m v caps line.update (length c.sent)) ∷ [] }
+abbrev pub with_single : PlainState → ℕ → Caps → Course → Task → Course
+with_single m v caps c task =
+    let s = submission c.sent task in
+    record { sent = c.sent ++ s ∷ []; journal = with_round c.journal (single m v caps s); replies = c.replies ++ (task.line, single_reply m v caps task.update (length c.sent)) ∷ [] }
 
 -- a course of caller 0: its journal has been reached, its rows fit, and all that was submitted is settled
 pub record IsCourse (limit : ℕ) (c : Course) : Type 0 where
@@ -62,8 +62,8 @@ pub record IsCourse (limit : ℕ) (c : Course) : Type 0 where
   pub fits : Fits (rows (fold c.journal)) c.journal.opening.caps
   pub within : length c.sent ≤ limit
 
--- a line of caller 0, with an update that a script may name, and that may be settled with others
-pub record IsPlain (line : Line) : Type 0 where
-  pub caller : line.caller ≡ 0
-  pub apart : line.update.alone ≡ false
-  pub served : IsServed line.update.act
+-- an update of caller 0, of an act that is built, that may be settled with others
+pub record IsPlain (task : Task) : Type 0 where
+  pub caller : task.caller ≡ 0
+  pub apart : task.update.alone ≡ false
+  pub served : IsServed task.update.act

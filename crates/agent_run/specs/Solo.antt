@@ -1,36 +1,37 @@
--- The run of one caller's lines.
+-- The run of one caller's updates.
 use Rattle.std.specs.Prelude.{ℕ, nat_lt, Option, None, Some, List, [], ◌∷◌, ◌++◌, length, drop, slice_get, if◌then◌else◌}
 use Rattle.net_types.specs.declared.table.Caps.{Caps}
-use Rattle.script_text.specs.declared.script.Line.{Line}
-use Rattle.script_text.specs.declared.script.Script.{Script}
 use Rattle.switch_model.specs.declared.act.Submission.{Submission}
 use Rattle.switch_model.specs.declared.journal.Entry.{Entry}
 use Rattle.switch_model.specs.declared.reply.Reply.{Reply}
 use Rattle.switch_model.specs.declared.reply.Reply.TheVariants.{Settled, HistoryFull}
-use Rattle.switch_model.specs.PlainState.{empty}
+use Rattle.switch_model.specs.PlainState.{PlainState}
 use Rattle.switch_model.specs.Journal.{Opening, Journal, entries, own, with_round}
 use Rattle.switch_model.specs.Round.{run, next_round}
+use Rattle.agent_run.specs.declared.plan.Plan.{Plan}
+use Rattle.agent_run.specs.declared.plan.Task.{Task}
 
--- what lines have led to: all that was submitted, the journal, and each line's reply
+-- what updates have led to: all that was submitted, the journal, and the reply under each line
 pub record Course : Type 0 where
   pub sent : List Submission
   pub journal : Journal
   pub replies : List (ℕ × Reply)
 
--- a cold start: the empty state at version 0, on a chip of these capacities
-abbrev pub cold : Caps → Opening
-cold caps = record { state = empty; version = 0; caps = caps }
+-- a cold start: the state of its base at version 0, on a chip of these capacities
+abbrev pub cold : Caps → PlainState → Opening
+cold caps base = record { state = base; version = 0; caps = caps }
 
-abbrev pub started : Caps → Course
-started caps = record { sent = []; journal = record { opening = cold caps; rounds = [] }; replies = [] }
+-- nothing was submitted yet
+abbrev pub started : Opening → Course
+started opening = record { sent = []; journal = record { opening = opening; rounds = [] }; replies = [] }
 
 -- the submissions that no round has settled yet
 abbrev pub pending : List Submission → Journal → List Submission
 pending sent j = drop (length (entries j)) sent
 
--- the line's update, under its caller's next number
-abbrev pub submission : List Submission → Line → Submission
-submission sent line = record { caller = line.caller; seq = length (own line.caller sent); update = line.update }
+-- the update, under its caller's next number
+abbrev pub submission : List Submission → Task → Submission
+submission sent task = record { caller = task.caller; seq = length (own task.caller sent); update = task.update }
 
 -- how an entry was settled, with the front that the answer rests on
 abbrev pub reply_of : ℕ → ℕ → Option Entry → Reply
@@ -42,24 +43,24 @@ abbrev pub reply_at : Journal → ℕ → Reply
 reply_at j position = reply_of position (length (entries j)) (slice_get (entries j) position)
 
 -- the update is submitted, and a round settles what is pending
-abbrev pub submit : Course → Line → Course
-submit c line =
-    let sent = c.sent ++ submission c.sent line ∷ [] in
+abbrev pub submit : Course → Task → Course
+submit c task =
+    let sent = c.sent ++ submission c.sent task ∷ [] in
     let j = with_round c.journal (next_round c.journal (run (pending sent c.journal))) in
-    record { sent = sent; journal = j; replies = c.replies ++ (line.line, reply_at j (length c.sent)) ∷ [] }
+    record { sent = sent; journal = j; replies = c.replies ++ (task.line, reply_at j (length c.sent)) ∷ [] }
 
 -- nothing is submitted past the limit
-abbrev pub refuse : Course → Line → Course
-refuse c line = record c { replies = c.replies ++ (line.line, HistoryFull) ∷ [] }
+abbrev pub refuse : Course → Task → Course
+refuse c task = record c { replies = c.replies ++ (task.line, HistoryFull) ∷ [] }
 
-abbrev pub step : ℕ → Course → Line → Course
-step limit c line = if nat_lt (length c.sent) limit then submit c line else refuse c line
+abbrev pub step : ℕ → Course → Task → Course
+step limit c task = if nat_lt (length c.sent) limit then submit c task else refuse c task
 
--- the lines in their order
-abbrev pub solo : ℕ → Course → List Line → Course
+-- the updates in their order
+abbrev pub solo : ℕ → Course → List Task → Course
 solo limit c [] = c
-solo limit c (line ∷ lines) = solo limit (step limit c line) lines
+solo limit c (task ∷ tasks) = solo limit (step limit c task) tasks
 
--- the run of a script
-abbrev pub course_of : Script → Course
-course_of script = solo script.limit (started script.caps) script.lines
+-- the run of a script whose base leads to that state
+abbrev pub course_of : PlainState → Plan → Course
+course_of base plan = solo plan.limit (started (cold plan.caps base)) plan.tasks

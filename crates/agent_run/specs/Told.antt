@@ -1,8 +1,8 @@
 -- What a caller was told is true of the journal.
 use Rattle.std.specs.Prelude.{ℕ, ◌≡◌, ◌≤◌, ◌<◌, ◌+◌, List, [], ◌∷◌, ◌++◌, Some, length, map, slice_get}
 use Rattle.std.specs.List.{AllByRecursion}
-use Rattle.script_text.specs.declared.script.Line.{Line}
-use Rattle.script_text.specs.declared.script.Script.{Script}
+use Rattle.agent_run.specs.declared.plan.Task.{Task}
+use Rattle.agent_run.specs.declared.plan.Plan.{Plan}
 use Rattle.switch_model.specs.declared.act.Update.{Update}
 use Rattle.switch_model.specs.declared.journal.Entry.{Entry}
 use Rattle.switch_model.specs.declared.journal.Round.{Round}
@@ -16,18 +16,18 @@ abbrev pub IsRoundEnd : Journal → ℕ → Type 0
 IsRoundEnd j front = (rounds : List Round) × IsFront rounds j.rounds × (front ≡ length (entries_of rounds))
 
 -- the entry at that place of the journal is the line's own update, with this verdict and version
-pub record IsSettledAt (j : Journal) (line : Line) (seq position : ℕ) (entry : Entry) : Type 0 where
+pub record IsSettledAt (j : Journal) (task : Task) (seq position : ℕ) (entry : Entry) : Type 0 where
   pub there : slice_get (entries j) position ≡ Some entry
-  pub caller : entry.caller ≡ line.caller
+  pub caller : entry.caller ≡ task.caller
   pub seq_is : entry.seq ≡ seq
-  pub update : entry.update ≡ line.update
+  pub update : entry.update ≡ task.update
 
 -- the reply to a line with an update, before which its caller had submitted that many updates, and been told of that front
-abbrev pub IsTold : ℕ → Journal → Line → ℕ → ℕ → Reply → Type 0
-IsTold limit j line seq before (Settled position verdict version front) =
-    (entry : Entry) × IsSettledAt j line seq position entry × (verdict ≡ entry.verdict) × (version ≡ entry.version) × (position < front) × IsRoundEnd j front × (before ≤ front)
-IsTold limit j line seq before HistoryFull = length (entries j) ≡ limit
-IsTold limit j line seq before _ = ⊥
+abbrev pub IsTold : ℕ → Journal → Task → ℕ → ℕ → Reply → Type 0
+IsTold limit j task seq before (Settled position verdict version front) =
+    (entry : Entry) × IsSettledAt j task seq position entry × (verdict ≡ entry.verdict) × (version ≡ entry.version) × (position < front) × IsRoundEnd j front × (before ≤ front)
+IsTold limit j task seq before HistoryFull = length (entries j) ≡ limit
+IsTold limit j task seq before _ = ⊥
 
 -- the updates that a caller had submitted and the front that it had been told of, after one more reply
 abbrev pub seq_after : ℕ → Reply → ℕ
@@ -44,25 +44,25 @@ StaysRefused HistoryFull rs = AllByRecursion (λ r. r.1 ≡ HistoryFull) rs
 StaysRefused _ rs = Unit {0}
 
 -- each line has one reply, under its number, which is true of the journal
-abbrev pub AreTold : ℕ → Journal → ℕ → ℕ → List Line → List (ℕ × Reply) → Type 0
+abbrev pub AreTold : ℕ → Journal → ℕ → ℕ → List Task → List (ℕ × Reply) → Type 0
 AreTold limit j seq before [] [] = Unit {0}
 AreTold limit j seq before [] (r ∷ rs) = ⊥
-AreTold limit j seq before (line ∷ lines) [] = ⊥
-AreTold limit j seq before (line ∷ lines) (r ∷ rs) =
-    (r.0 ≡ line.line) × IsTold limit j line seq before r.1 × StaysRefused r.1 rs × AreTold limit j (seq_after seq r.1) (front_after before r.1) lines rs
+AreTold limit j seq before (task ∷ tasks) [] = ⊥
+AreTold limit j seq before (task ∷ tasks) (r ∷ rs) =
+    (r.0 ≡ task.line) × IsTold limit j task seq before r.1 × StaysRefused r.1 rs × AreTold limit j (seq_after seq r.1) (front_after before r.1) tasks rs
 
 -- the update of a line that wasn't refused
-abbrev pub update_taken : Line → Reply → List Update
-update_taken line (Settled position verdict version front) = line.update ∷ []
-update_taken line _ = []
+abbrev pub update_taken : Task → Reply → List Update
+update_taken task (Settled position verdict version front) = task.update ∷ []
+update_taken task _ = []
 
 -- the updates of the lines that weren't refused
-abbrev pub taken : List Line → List (ℕ × Reply) → List Update
+abbrev pub taken : List Task → List (ℕ × Reply) → List Update
 taken [] rs = []
-taken (line ∷ lines) [] = []
-taken (line ∷ lines) (r ∷ rs) = update_taken line r.1 ++ taken lines rs
+taken (task ∷ tasks) [] = []
+taken (task ∷ tasks) (r ∷ rs) = update_taken task r.1 ++ taken tasks rs
 
 -- the replies of one caller's script, over its journal
-pub record Told (script : Script) (j : Journal) (replies : List (ℕ × Reply)) : Type 0 where
-  pub each : AreTold script.limit j 0 0 script.lines replies
-  pub all : map (λ s. s.update) (own 0 (strip j)) ≡ taken script.lines replies
+pub record Told (plan : Plan) (j : Journal) (replies : List (ℕ × Reply)) : Type 0 where
+  pub each : AreTold plan.limit j 0 0 plan.tasks replies
+  pub all : map (λ s. s.update) (own 0 (strip j)) ≡ taken plan.tasks replies

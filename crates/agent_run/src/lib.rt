@@ -1,8 +1,12 @@
 //! The run of a script: the switch with its chip, its journal, and the program as one call.
 #![tactic(auto)]
 
+mod base;
 mod laws;
+mod load;
+mod plan;
 mod program;
+mod refusal;
 mod report;
 mod solo;
 mod state;

@@ -4,9 +4,9 @@ ghost use Rattle.keyed.specs.Keyed.{change};
 ghost use Rattle.net_types.specs.KeyOrder.{l2_cmp};
 ghost use Rattle.std.specs.Ordering.{nat_cmp};
 ghost use Rattle.net_types.specs.declared.table.Table.TheVariants.{L2};
-ghost use Rattle.script_text.specs.Script.{IsServed};
+ghost use Rattle.agent_run.specs.Served.{IsServed};
 ghost use Rattle.agent_run.specs.Changed.{changed};
-ghost use Rattle.agent_run.specs.Kept.{IsBare};
+ghost use Rattle.agent_run.specs.Bare.{IsBare};
 ghost use Rattle.chip_core.specs.Chip.{view_of};
 ghost use Rattle.net_types.specs.Capacity.{over, Fits};
 ghost use Rattle.switch_model.specs.Effect.{effect, with_up};
@@ -49,7 +49,7 @@ pub fn program<C: HwSwitch>(chip: &mut C, state: &State, act: &Act) -> Result<()
             Ok(())
         }
         Act::MacSet { vlan, mac, port } => set_station(chip, state, *vlan, *mac, *port),
-        // No script names another act.
+        // Nothing else is built.
         _ => unreachable!(),
     }
 }

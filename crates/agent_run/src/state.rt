@@ -1,5 +1,5 @@
 // The state of the switch, as sorted lists.
-ghost use Rattle.std.specs.Prelude.{◌≡◌, ◌≢◌, [], ◌∷◌, not, None, Some, is_some, is_none, OnOk, OnErr};
+ghost use Rattle.std.specs.Prelude.{◌≡◌, ◌≢◌, [], ◌∷◌, false, not, None, Some, is_some, is_none, OnOk, OnErr};
 ghost use Rattle.std.specs.Ordering.{nat_cmp};
 ghost use Rattle.keyed.specs.Keyed.{at, change, put, Ascends};
 ghost use Rattle.net_types.specs.KeyOrder.{l2_cmp};
@@ -7,7 +7,7 @@ ghost use Rattle.agent_run.specs.Stations.{stations_behind};
 ghost use Rattle.net_types.specs.Unicast.{is_unicast};
 ghost use Rattle.switch_model.specs.First.{first_that_holds};
 ghost use Rattle.switch_model.specs.PlainState.{empty, port_at, vlan_at};
-ghost use Rattle.script_text.specs.Script.{IsServed};
+ghost use Rattle.agent_run.specs.Served.{IsServed};
 ghost use Rattle.switch_model.specs.Reason.{reason, is_in_vlan};
 ghost use Rattle.switch_model.specs.Effect.{effect, with_up};
 ghost use Rattle.switch_model.specs.Rows.{is_up};
@@ -17,7 +17,7 @@ use net_types::{L2Key, Mac, NoMemory, Port, Vlan};
 use std::alloc::Global;
 use std::collections::btree_set::Range;
 use std::marker::Model;
-use switch_model::{Act, MacRec, PortRec, Reason, Update, VlanRec};
+use switch_model::{Act, MacRec, PortRec, Reason, VlanRec};
 
 /// What stands in the switch: VLANs, ports, and the stations' ports. It has no interfaces, neighbours
 /// and routes, since no script names them yet. The stations are kept by port
@@ -63,6 +63,14 @@ impl State {
         self.stations.behind(port)
     }
 
+    /// The MAC entries, by ascending VLAN and MAC.
+    pub fn macs(&self) -> &[(L2Key, MacRec)]
+        ensures value { result.now ≡ self.now.macs }
+        ensures ascend { Ascends l2_cmp result.now }
+    {
+        self.macs.as_slice()
+    }
+
     pub fn has_vlan(&self, vlan: Vlan) -> bool
         ensures { result ≡ is_some (vlan_at self.now vlan) }
     {
@@ -95,17 +103,17 @@ impl State {
         }
     }
 
-    /// Why an update is invalid, if it is.
-    pub fn reason(&self, update: &Update) -> Option<Reason>
-        requires served { IsServed update.now.act }
-        ensures { result ≡ reason self.now update.now }
+    /// Why an act is invalid, if it is.
+    pub fn reason(&self, act: &Act) -> Option<Reason>
+        requires served { IsServed act.now }
+        ensures { result ≡ reason self.now (record { alone = false; act = act.now }) }
     {
-        match &update.act {
+        match act {
             Act::VlanAdd { vlan, .. } => self.vlan_reason(*vlan),
             Act::PortAdd { port, vlan } => self.port_reason(*port, *vlan),
             Act::PortUp { port } | Act::PortDown { port } => self.flip_reason(*port),
             Act::MacSet { vlan, mac, port } => self.mac_reason(*vlan, *mac, *port),
-            // No script names another act.
+            // Nothing else is built.
             _ => unreachable!(),
         }
     }
@@ -193,7 +201,7 @@ impl State {
                 },
                 *port,
             ),
-            // No script names another act.
+            // Nothing else is built.
             _ => unreachable!(),
         }
     }

@@ -9,7 +9,7 @@ pub enum Status {
     Done,
     /// The words aren't a command; the error line was written.
     Words,
-    /// The input is no script; the error line was written.
+    /// The input is no script, or one that isn't run; the error line was written.
     Script,
     /// The source failed; nothing was written.
     ReadFault,
@@ -19,6 +19,9 @@ pub enum Status {
     NoMemory,
     /// The input is longer than a script may be; nothing was written.
     TooLong,
+    /// The script's base has more rows than a table of the chip has room for; the error line was
+    /// written.
+    OpeningFull,
 }
 
 impl Status {
@@ -34,6 +37,7 @@ impl Status {
             Status::WriteFault => 5,
             Status::NoMemory => 8,
             Status::TooLong => 9,
+            Status::OpeningFull => 10,
         }
     }
 }

@@ -1,12 +1,12 @@
 // The switch: its chip, its state, and its journal.
 ghost use Rattle.std.specs.Prelude.{◌≡◌, ◌<◌, ◌^◌, ◌+◌, ◌++◌, [], ◌∷◌, false, IfOk, OnOk};
-ghost use Rattle.chip_core.specs.Chip.{empty as no_rows, view_of};
-ghost use Rattle.switch_model.specs.PlainState.{empty as no_state};
+ghost use Rattle.chip_core.specs.Chip.{view_of};
 ghost use Rattle.switch_model.specs.Journal.{after_verdict};
 ghost use Rattle.switch_model.specs.Rows.{rows};
 ghost use Rattle.switch_model.specs.Round.{is_accepted};
-ghost use Rattle.script_text.specs.Script.{IsServed};
-ghost use Rattle.agent_run.specs.Kept.{IsKept, IsBare};
+ghost use Rattle.agent_run.specs.Served.{IsServed};
+ghost use Rattle.agent_run.specs.Bare.{IsBare};
+ghost use Rattle.agent_run.specs.Kept.{IsInStep};
 ghost use Rattle.agent_run.specs.Single.{kind_of, verdict_on, version_by, single};
 
 use crate::program::program;
@@ -28,16 +28,20 @@ pub struct Switch<C: HwSwitch> {
 }
 
 impl<C: HwSwitch> Switch<C> {
-    /// A cold start on a chip without rows.
-    pub fn start(alloc: Global, chip: C) -> Switch<C>
-        requires { C.raw chip ≡ no_rows }
+    /// A cold start on a chip whose rows are those of the state that the base leads to.
+    pub fn start(alloc: Global, chip: C, state: State) -> Switch<C>
+        requires in_step { view_of (C.raw chip) ≡ rows state }
+        requires bare { IsBare state }
+        ensures state { result.state ≡ state }
         ensures rounds { result.rounds ≡ [] }
+        ensures version { result.version ≡ 0 }
+        ensures settled { result.settled ≡ 0 }
         ensures caps { C.caps result.chip ≡ C.caps chip }
-        ensures kept { IsKept result.state result.version result.settled result.rounds (C.raw result.chip) (C.caps result.chip) }
+        ensures in_step { IsInStep result.state result.version result.settled (C.raw result.chip) }
     {
         Switch {
             chip,
-            state: State::new(alloc),
+            state,
             version: 0,
             rounds: RoundList::new(alloc),
             settled: 0,
@@ -47,17 +51,18 @@ impl<C: HwSwitch> Switch<C> {
     /// Settles one submission by itself, as the next round. After a refusal of memory the switch is
     /// of no further use.
     pub fn settle(&mut self, alloc: Global, submission: Submission) -> Result<Verdict, NoMemory>
-        requires kept { IsKept self.old.state self.old.version self.old.settled self.old.rounds (C.raw self.old.chip) (C.caps self.old.chip) }
+        requires in_step { IsInStep self.old.state self.old.version self.old.settled (C.raw self.old.chip) }
         requires room { self.old.settled < 2 ^ 63 }
         requires served { IsServed submission.update.act }
         ensures verdict { IfOk result (λ verdict. verdict ≡ verdict_on self.old.state (C.caps self.old.chip) submission.update) }
+        ensures state { IfOk result (λ verdict. self.new.state ≡ after_verdict self.old.state submission.update verdict) }
         ensures rounds { OnOk result (self.new.rounds ≡ self.old.rounds ++ single self.old.state self.old.version (C.caps self.old.chip) submission ∷ []) }
         ensures version { IfOk result (λ verdict. self.new.version ≡ version_by self.old.version verdict) }
         ensures settled { OnOk result (self.new.settled ≡ self.old.settled + 1) }
         // What isn't accepted leaves chip and state exactly as before.
         ensures unchanged { IfOk result (λ verdict. is_accepted verdict ≡ false → (C.raw self.new.chip ≡ C.raw self.old.chip) × (self.new.state ≡ self.old.state)) }
         ensures caps { OnOk result (C.caps self.new.chip ≡ C.caps self.old.chip) }
-        ensures kept { OnOk result (IsKept self.new.state self.new.version self.new.settled self.new.rounds (C.raw self.new.chip) (C.caps self.new.chip)) }
+        ensures in_step { OnOk result (IsInStep self.new.state self.new.version self.new.settled (C.raw self.new.chip)) }
     {
         let verdict = self.attempt(alloc, &submission.update)?;
         self.version = version_after(self.version, verdict);
@@ -80,7 +85,7 @@ impl<C: HwSwitch> Switch<C> {
         ensures caps { C.caps self.new.chip ≡ C.caps self.old.chip }
         ensures others { (self.new.version ≡ self.old.version) × (self.new.settled ≡ self.old.settled) × (self.new.rounds ≡ self.old.rounds) }
     {
-        if let Some(reason) = self.state.reason(update) {
+        if let Some(reason) = self.state.reason(&update.act) {
             return Ok(Verdict::Invalid(reason));
         }
         if program(&mut self.chip, &self.state, &update.act).is_err() {

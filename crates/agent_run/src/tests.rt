@@ -159,6 +159,35 @@ fn run<R: Threads + Wait + Sync>(
     Ok((status, sink.bytes().to_vec(alloc)?))
 }
 
+const ON_A_BASE: &[u8] = b"start cold 1 0 0 0
+limit 100
+callers 1
+base vlan add 10 web
+base port add 1 10
+base mac set 10 02:00:00:00:00:0b 1
+phase
+0 mac set 10 02:00:00:00:00:01 7
+phase
+  # the port of a station of the base
+0 port up 1";
+
+const ON_A_BASE_REPORT: &[u8] = b"report 1
+start cold version 0
+caps 1 0 0 0
+replies 2
+8 settled 0 invalid NoPort version 0 front 1
+11 settled 1 accepted version 1 front 2
+journal entries 2 rounds 2 version 1
+round 0 whole version 0
+0 caller 0 seq 0 invalid NoPort mac set 10 02:00:00:00:00:01 7
+round 1 whole version 1
+1 caller 0 seq 1 accepted port up 1
+tables l2 1 host 0 group 0 route 0
+l2 10 02:00:00:00:00:0b port 1 up
+observers 0
+end
+";
+
 #[test]
 fn reports_the_worked_examples(rt: HostRuntime) -> Result<(), Fail> {
     for (script, report) in [
@@ -166,6 +195,7 @@ fn reports_the_worked_examples(rt: HostRuntime) -> Result<(), Fail> {
         (NO_LINES, NO_LINES_REPORT),
         (FULL_TABLE, FULL_TABLE_REPORT),
         (PAST_THE_LIMIT, PAST_THE_LIMIT_REPORT),
+        (ON_A_BASE, ON_A_BASE_REPORT),
     ] {
         let (status, written) = run(&rt, rt.alloc(), script, (4096, &[]), (4096, &[]))?;
         assert_eq!(rt; status, Status::Done);
@@ -174,20 +204,98 @@ fn reports_the_worked_examples(rt: HostRuntime) -> Result<(), Fail> {
     Ok(())
 }
 
-#[test]
-fn says_that_the_input_is_no_script(rt: HostRuntime) -> Result<(), Fail> {
-    for script in [
-        b"".as_slice(),
-        b"start cold 4 4 4 4\nlimit 10\ncallers 1\nphase\n0 vlan add 4095 x\n",
-        b"start cold 4 4 4 4\nlimit 10\ncallers 1\nphase\n0 vlan del 10\n",
-        b"start\tcold 4 4 4 4\nlimit 10\ncallers 1\n",
-        b"start cold 4 4 4 4\nlimit 10\ncallers 1",
-        b"start cold 4 4 4 4\nlimit 10\ncallers 2\n",
-    ] {
-        let (status, written) = run(&rt, rt.alloc(), script, (4096, &[]), (4096, &[]))?;
-        assert_eq!(rt; status, Status::Script);
-        assert_eq!(rt; written.as_slice(), b"error: script\n".as_slice());
+/// The status of a script that isn't run, and the line that says why.
+fn refusal<R: Threads + Wait + Sync>(
+    rt: &R,
+    alloc: Global,
+    parts: &[&[u8]],
+) -> Result<(Status, Vec<u8>), NoMemory> {
+    let mut script = Vec::new(alloc);
+    for part in parts {
+        script.extend_from_slice(part)?;
     }
+    run(rt, alloc, script.as_slice(), (4096, &[]), (4096, &[]))
+}
+
+#[test]
+fn says_where_a_script_is_bad(rt: HostRuntime) -> Result<(), Fail> {
+    let alloc = rt.alloc();
+    for (script, line) in [
+        (b"".as_slice(), b"error: script line 1 word 0\n".as_slice()),
+        (b"start\tcold 4 4 4 4\n", b"error: script line 1 byte\n"),
+        (
+            b"start cold 4 4 4 4\nlimit 10\n",
+            b"error: script line 3 word 0\n",
+        ),
+        (
+            b"start cold 4 4 4 4\n\nlimit 0\n",
+            b"error: script line 3 word 1\n",
+        ),
+        (
+            b"start cold 4 4 4 4\nlimit 10\ncallers 1\nphase\n0 vlan add 4095 x\n",
+            b"error: script line 5 word 3\n",
+        ),
+    ] {
+        let (status, written) = refusal(&rt, alloc, &[script])?;
+        assert_eq!(rt; status, Status::Script);
+        assert_eq!(rt; written.as_slice(), line);
+    }
+    Ok(())
+}
+
+#[test]
+fn says_that_a_script_is_not_built(rt: HostRuntime) -> Result<(), Fail> {
+    let alloc = rt.alloc();
+    for script in [
+        b"start warm kept\nlimit 10\ncallers 1\n".as_slice(),
+        b"start cold 0 0 0 0\nlimit 1\ncallers 2\n",
+        b"start cold 4 4 4 4\nlimit 10\ncallers 1\nbase vlan del 1\n",
+        b"start cold 4 4 4 4\nlimit 10\ncallers 1\nphase\n0 vlan del 10\n",
+        b"start cold 4 4 4 4\nlimit 10\ncallers 1\nphase\n0 queue port up 1\n",
+        b"start cold 4 4 4 4\nlimit 10\ncallers 1\nphase\n0 alone port up 1\n",
+        b"start cold 4 4 4 4\nlimit 10\ncallers 1\nphase\n0 settle\n",
+        // That it isn't built is told before the base is tried.
+        b"start cold 4 4 4 4\nlimit 10\ncallers 1\nbase port add 1 1\nphase\n0 peek\n",
+    ] {
+        let (status, written) = refusal(&rt, alloc, &[script])?;
+        assert_eq!(rt; status, Status::Script);
+        assert_eq!(rt; written.as_slice(), b"error: script not built\n".as_slice());
+    }
+    Ok(())
+}
+
+const ONE_STATION: &[u8] = b"limit 1
+callers 1
+base vlan add 1 a
+base port add 1 1
+base mac set 1 02:00:00:00:00:01 1
+";
+
+#[test]
+fn says_why_a_base_cannot_be_opened(rt: HostRuntime) -> Result<(), Fail> {
+    let alloc = rt.alloc();
+    let no_vlan = b"start cold 0 0 0 0\nlimit 1\ncallers 1\n# none yet\nbase port add 1 1\n";
+    let (status, written) = refusal(&rt, alloc, &[no_vlan])?;
+    assert_eq!(rt; status, Status::Script);
+    assert_eq!(rt;
+        written.as_slice(),
+        b"error: script line 5 base NoVlan\n".as_slice()
+    );
+    let (status, written) = refusal(&rt, alloc, &[b"start cold 0 0 0 0\n", ONE_STATION])?;
+    assert_eq!(rt; status, Status::OpeningFull);
+    assert_eq!(rt; written.as_slice(), b"error: opening full l2\n".as_slice());
+    // An invalid line of the base comes before the chip's room.
+    let parts = [
+        b"start cold 0 0 0 0\n".as_slice(),
+        ONE_STATION,
+        b"base vlan add 1 a\n",
+    ];
+    let (status, written) = refusal(&rt, alloc, &parts)?;
+    assert_eq!(rt; status, Status::Script);
+    assert_eq!(rt;
+        written.as_slice(),
+        b"error: script line 7 base VlanExists\n".as_slice()
+    );
     Ok(())
 }
 

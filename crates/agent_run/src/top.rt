@@ -2,12 +2,12 @@
 ghost use Rattle.std.specs.Prelude.{◌≡◌, ◌+◌, ◌↔◌, Decides, map, codes};
 ghost use Rattle.std.specs.String.{string_bytes};
 ghost use Rattle.io_edge.specs.Causes.{Rose, ReadsFront, Writes};
-ghost use Rattle.agent_run.specs.Top.{IsRunCommand, Reported, Refused, CutShort, WritesNothing, IsComplete, Served, Answered};
+ghost use Rattle.agent_run.specs.Top.{IsRunCommand, Reported, Refused, CutShort, WritesNothing, IsComplete, Served, Answered, Declined};
 
+use crate::refusal::{Refusal, RunFault, refusal_line, status_of};
 use crate::report::report_of;
 use crate::status::Status;
 use io_edge::{Gate, ReadFault, Sink, Source, Store, read_all, write_all};
-use script_text::ScriptFault;
 use std::alloc::Global;
 use std::sync::Wait;
 use std::thread::Threads;
@@ -17,7 +17,8 @@ pub const LONGEST_SCRIPT: usize = 16_777_216;
 
 /// Does what the words ask, and says how that ended. The one command is `run`: the source's bytes
 /// are a script, and the report of its run goes to the sink. The tests come in this order: the
-/// words, the reading, the script; then the script is run and the report is written.
+/// words, the reading, the script, the base, the chip's room for it; then the script is run and the
+/// report is written.
 ///
 /// The store and the gate are for later commands: the store is left as it is, and no caller is held.
 pub fn agent_main<Rt: Threads + Wait + Sync, S: Source, K: Sink, F: Store, G: Gate + Sync>(
@@ -37,8 +38,11 @@ pub fn agent_main<Rt: Threads + Wait + Sync, S: Source, K: Sink, F: Store, G: Ga
     ensures words_line { result ≡ Status.Words → Writes (K.written sink.old) (K.written sink.new) (K.faults sink.old) (K.faults sink.new) (codes "error: words\n") }
     ensures words_unread { result ≡ Status.Words → S.left source.new ≡ S.left source.old }
 
-    // The whole input is no script. Where it is one, no status says otherwise: see `done` and `cut_short`.
-    ensures script { result ≡ Status.Script → Refused (S.left source.old) (S.left source.new) (K.written sink.old) (K.written sink.new) (K.faults sink.old) (K.faults sink.new) }
+    // The whole input is no script, or one that isn't run, for the reason that the error line says.
+    ensures script { result ≡ Status.Script → Refused Status.Script (S.left source.old) (S.left source.new) (K.written sink.old) (K.written sink.new) (K.faults sink.old) (K.faults sink.new) }
+
+    // The rows of the base's state are over the capacity of the table that the error line names.
+    ensures opening_full { result ≡ Status.OpeningFull → Refused Status.OpeningFull (S.left source.old) (S.left source.new) (K.written sink.old) (K.written sink.new) (K.faults sink.old) (K.faults sink.new) }
 
     // Faults come only from the outside: its count of faults rose.
     ensures read_fault { result ≡ Status.ReadFault → Rose (S.faults source.old) (S.faults source.new) }
@@ -49,7 +53,7 @@ pub fn agent_main<Rt: Threads + Wait + Sync, S: Source, K: Sink, F: Store, G: Ga
     ensures too_long { result ≡ Status.TooLong → ReadsFront (S.left source.old) (S.left source.new) (LONGEST_SCRIPT + 1) }
     ensures nothing_written { WritesNothing result (K.written sink.old) (K.written sink.new) }
 
-    // A whole script, with no fault on the way, is reported, but for want of memory.
+    // A whole script that is run, with no fault on the way, is reported, but for want of memory.
     ensures complete { IsComplete (map string_bytes words.now.items) (S.left source.old) result (Rose (S.faults source.old) (S.faults source.new)) (Rose (K.faults sink.old) (K.faults sink.new)) }
     ensures store { F.texts store.new ≡ F.texts store.old }
 {
@@ -83,20 +87,28 @@ fn is_run_command(words: &Vec<String>) -> bool
     words.len() == 1 && words[0].as_str() == "run"
 }
 
-/// Writes the report of the run of a script, or the line that says that the bytes are none.
+/// Writes the report of the run of a script, or the line that says why there is none.
 fn answer<K: Sink>(alloc: Global, bytes: &[u8], sink: &mut K) -> Status
     ensures { Answered bytes.now (K.written sink.old) (K.written sink.new) (K.faults sink.old) (K.faults sink.new) result }
 {
     let report = match report_of(alloc, bytes) {
         Ok(report) => report,
-        Err(ScriptFault::Refused) => {
-            let _ = write_all(sink, b"error: script\n");
-            return Status::Script;
-        }
-        Err(ScriptFault::NoMemory) => return Status::NoMemory,
+        Err(RunFault::Refused(refusal)) => return refuse(alloc, refusal, sink),
+        Err(RunFault::NoMemory) => return Status::NoMemory,
     };
     match write_all(sink, report.as_slice()) {
         Ok(()) => Status::Done,
         Err(_) => Status::WriteFault,
     }
+}
+
+/// Writes the line that says why a script isn't run.
+fn refuse<K: Sink>(alloc: Global, refusal: Refusal, sink: &mut K) -> Status
+    ensures { Declined refusal (K.written sink.old) (K.written sink.new) (K.faults sink.old) (K.faults sink.new) result }
+{
+    let Ok(line) = refusal_line(alloc, refusal) else {
+        return Status::NoMemory;
+    };
+    let _ = write_all(sink, line.as_slice());
+    status_of(refusal)
 }

@@ -23,3 +23,4 @@ pub mod RoundTrip
 pub mod ValueLaws
 pub mod GroupValues
 pub mod IpValues
+pub mod WordLaws

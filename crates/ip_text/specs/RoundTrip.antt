@@ -1,5 +1,6 @@
 -- Printing and then reading.
-use Rattle.std.specs.Prelude.{◌≡◌, ◌<◌, ◌^◌, ℕ, Option, None, Some, List, Result, Ok}
+use Rattle.std.specs.Prelude.{◌≡◌, ◌≢◌, ◌<◌, ◌^◌, ℕ, Option, None, Some, List, Result, Ok, length}
+use Rattle.std.specs.List.{AllByRecursion}
 use Rattle.net_types.specs.declared.ip.Ip.{Ip}
 use Rattle.net_types.specs.declared.hop.Hop.{Hop}
 use Rattle.net_types.specs.Address.{ip_number, ip_width}
@@ -23,3 +24,9 @@ IsIntfIfAny (Some intf) = IsIntf intf
 -- both parts are in their ranges
 abbrev pub IsHopValue : Hop → Type 0
 IsHopValue hop = IsIpValue hop.ip × IsIntfIfAny hop.intf
+
+-- the text is one word that spells the value: it isn't empty and has no space
+pub record IsWordOf {A : Type 0} (value_of : List ℕ → Option A) (value : A) (text : List ℕ) : Type 0 where
+  pub spells : value_of text ≡ Some value
+  pub some : 0 < length text
+  pub solid : AllByRecursion (λ b. b ≢ 32) text

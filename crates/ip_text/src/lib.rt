@@ -16,7 +16,7 @@ mod runs;
 mod write;
 
 pub use fault::TextFault;
-pub use laws::{forms_are_functions, printed_is_read_back};
+pub use laws::{forms_are_functions, printed_is_a_word, printed_is_read_back};
 pub use print::{print_addr, print_hop, print_ip, print_mac, print_prefix};
 pub use read::{read_addr, read_hop, read_ip, read_mac, read_prefix};
 

@@ -12,6 +12,7 @@ mod words;
 
 pub use head::ReportHead;
 pub use report::report_bytes;
+pub use words::{reason_word, table_word};
 
 #[cfg(test)]
 mod tests;

@@ -7,7 +7,8 @@ use net_types::Table;
 use std::fmt;
 use switch_model::{Reason, RoundKind, Verdict};
 
-fn table_word(table: Table) -> &'static str
+/// The word for a table of the chip.
+pub fn table_word(table: Table) -> &'static str
     ensures { result.now ≡ table_text table }
 {
     match table {
@@ -18,7 +19,8 @@ fn table_word(table: Table) -> &'static str
     }
 }
 
-fn reason_word(reason: Reason) -> &'static str
+/// The word for a reason: its name.
+pub fn reason_word(reason: Reason) -> &'static str
     ensures { result.now ≡ reason_text reason }
 {
     match reason {

@@ -1,190 +1,171 @@
--- The line of each act is a form, and so is the line of any act.
-use Rattle.std.proofs.Common.{◌≡◌, ℕ, List, [], ◌∷◌, ◌++◌, Some, None, refl, sym, ap, subst, ◌∙◌, inl, inr, arith, append_assoc, codes}
-use Rattle.std.specs.Fmt.{decimal}
+-- The acts: what is read is an act, the words of an act are read, and a fault is at the first word that no act begins with.
+use Rattle.std.proofs.Common.{◌≡◌, ℕ, List, [], ◌∷◌, ◌++◌, Result, Ok, Err, refl, codes}
+use Rattle.std.specs.Prelude.{map}
 use Rattle.switch_model.specs.declared.act.Act.{Act}
-use Rattle.switch_model.specs.declared.act.Act.TheVariants.{VlanAdd, PortAdd, PortUp, PortDown, MacSet}
-use Rattle.script_text.specs.declared.script.Line.{Line}
-use Rattle.script_text.specs.Script.{IsActText, IsLine}
-use Rattle.script_text.specs.Reading.{◌>>=◌, after, follow, vlan_add_at, port_add_at, port_up_at, port_down_at, mac_set_at, act_at, line_of, line_at}
-use Rattle.script_text.proofs.Steps.{follow_takes, no_value}
-use Rattle.script_text.proofs.Forms.{Form, form_is, form_behind, form_then, form_map}
-use Rattle.script_text.proofs.Fields.{number_form, name_form}
-use Rattle.script_text.proofs.MacLaws.{mac_form}
+use Rattle.switch_model.specs.declared.act.Act.TheVariants.{VlanAdd, VlanDel, PortAdd, PortDel, PortVlan, PortUp, PortDown, IntfAdd, IntfDel, AddrAdd, AddrDel, NeighborSet, NeighborPending, NeighborDel, MacSet, MacDel, RouteSet, RouteDel, ClientSync}
+use Rattle.switch_model.specs.declared.via.Via.{Via}
+use Rattle.switch_model.specs.declared.via.Via.TheVariants.{Hops, ToCpu, Discard}
+use Rattle.script_words.specs.Grammar.{Token, key, AreWords, vlan, port, intf, vrf, vlan_name, ip, addr, prefix, mac, hop, client}
+use Rattle.script_words.specs.Exact.{Exact, Partly, exact_ended, exact_choose, exact_map, partly_choose, partly_bad}
+use Rattle.script_words.specs.Classes.{vlan_class, port_class, intf_class, vrf_class, vlan_name_class, ip_class, addr_class, prefix_class, mac_class, hop_class, client_class}
+use Rattle.script_words.specs.Again.{Again, exact_one, again_ended, again_one, again_here, again_next, again_map}
+use Rattle.script_words.specs.Rows.{exact_each, each_again}
+use Rattle.script_text.specs.Grammar.{act, action, items}
+use Rattle.script_text.specs.Reading.{via_at, act_at, vlan_add_at, vlan_del_at, port_add_at, port_del_at, port_vlan_at, port_up_at, port_down_at, intf_add_at, intf_del_at, addr_add_at, addr_del_at, neighbor_set_at, neighbor_pending_at, neighbor_del_at, mac_set_at, mac_del_at, route_set_at, route_del_at, client_sync_at, vlan_at, port_at, intf_at, addr_at, neighbor_at, mac_at, route_at, client_at}
+use Rattle.script_text.proofs.ItemLaws.{exact_items, items_again}
 
--- the words of an act, and the line's end
-abbrev pub IsActLine : Act → List ℕ → Type 0
-IsActLine act text = (a : List ℕ) × IsActText act a × (text ≡ a ++ codes "\n")
+exact_via : Exact via_at (λ via ws. AreWords (action via) ws)
+unfolding via_at
+exact_via = exact_choose (codes "via") (exact_map Hops (λ hs ws is. (refl, is)) (exact_each hop_class)) (partly_choose (codes "cpu") (exact_ended (refl, tt)) (partly_choose (codes "drop") (exact_ended (refl, tt)) partly_bad))
 
--- a word, its separator and a last word, up to the line's end
-two_words : (k d e : List ℕ) (s n : ℕ) → k ++ ((d ++ s ∷ []) ++ (e ++ n ∷ [])) ≡ (k ++ (d ++ s ∷ e)) ++ n ∷ []
-two_words k d e s n = sym (append_assoc k (d ++ s ∷ e) (n ∷ []) ∙ ap (λ (l : List ℕ). k ++ l) (append_assoc d (s ∷ e) (n ∷ []) ∙ sym (append_assoc d (s ∷ []) (e ++ n ∷ []))))
+via_again : (via : Via) → Again via_at (action via) via
+unfolding via_at
+via_again (Hops hs) = again_here _ (again_map Hops (record { again = λ ws is. each_again hop_class hs ws is }))
+via_again ToCpu = again_next _ _ refl (again_here _ again_ended)
+via_again Discard = again_next _ _ refl (again_next _ _ refl (again_here _ again_ended))
 
-vlan_add_form : Form (λ act text. (v : ℕ) × (name : List ℕ) × (act ≡ VlanAdd v name) × IsActLine (VlanAdd v name) text) (λ bytes. after (codes "vlan add ") bytes >>= vlan_add_at)
+-- the words of an act behind others
+abbrev Behind : List (List ℕ) → Act → List (List ℕ) → Type 0
+Behind front a ws = AreWords (act a) (front ++ ws)
+
+exact_vlan_add : Exact vlan_add_at (Behind (codes "vlan" ∷ codes "add" ∷ []))
 unfolding vlan_add_at
-vlan_add_form =
-    form_is
-    (λ act text is.
-    let it = is.1 in let name = it.4 in (
-      it.0,
-      name.0,
-      name.2,
-      (
-        codes "vlan add " ++ (decimal it.0 ++ 32 ∷ name.0),
-        (it.3.0, name.1.0, refl),
-        is.2 ∙ ap (λ (l : List ℕ). codes "vlan add " ++ l) (it.5 ∙ ap (λ (l : List ℕ). l ++ it.2) it.3.1 ∙ ap (λ (l : List ℕ). (decimal it.0 ++ 32 ∷ []) ++ l) name.1.1) ∙ two_words (codes "vlan add ") (decimal it.0) name.0 32 10,
-      ),
-    ))
-    (λ act text is.
-    let line = is.3 in let words = line.1 in (
-      (decimal is.0 ++ 32 ∷ []) ++ (is.1 ++ 10 ∷ []),
-      (is.0, decimal is.0 ++ 32 ∷ [], is.1 ++ 10 ∷ [], (words.0, refl), (is.1, (words.1, refl), is.2), refl),
-      line.2 ∙ ap (λ (l : List ℕ). l ++ 10 ∷ []) words.2 ∙ sym (two_words (codes "vlan add ") (decimal is.0) is.1 32 10),
-    ))
-    (form_behind (codes "vlan add ") (form_then (number_form 1 4094 32 (omega arith) (omega arith)) (λ v. form_map (VlanAdd v) name_form)))
+exact_vlan_add = exact_one vlan_class (λ w v v_is. exact_one vlan_name_class (λ u n n_is. exact_ended (refl, (refl, (v_is, (n_is, tt))))))
 
-port_add_form : Form (λ act text. (p : ℕ) × (v : ℕ) × (act ≡ PortAdd p v) × IsActLine (PortAdd p v) text) (λ bytes. after (codes "port add ") bytes >>= port_add_at)
+exact_vlan_del : Exact vlan_del_at (Behind (codes "vlan" ∷ codes "del" ∷ []))
+unfolding vlan_del_at
+exact_vlan_del = exact_one vlan_class (λ w v v_is. exact_ended (refl, (refl, (v_is, tt))))
+
+exact_port_add : Exact port_add_at (Behind (codes "port" ∷ codes "add" ∷ []))
 unfolding port_add_at
-port_add_form =
-    form_is
-    (λ act text is.
-    let it = is.1 in let vlan = it.4 in (
-      it.0,
-      vlan.0,
-      vlan.2,
-      (
-        codes "port add " ++ (decimal it.0 ++ 32 ∷ decimal vlan.0),
-        (it.3.0, vlan.1.0, refl),
-        is.2 ∙ ap (λ (l : List ℕ). codes "port add " ++ l) (it.5 ∙ ap (λ (l : List ℕ). l ++ it.2) it.3.1 ∙ ap (λ (l : List ℕ). (decimal it.0 ++ 32 ∷ []) ++ l) vlan.1.1) ∙ two_words (codes "port add ") (decimal it.0) (decimal vlan.0) 32 10,
-      ),
-    ))
-    (λ act text is.
-    let line = is.3 in let words = line.1 in (
-      (decimal is.0 ++ 32 ∷ []) ++ (decimal is.1 ++ 10 ∷ []),
-      (is.0, decimal is.0 ++ 32 ∷ [], decimal is.1 ++ 10 ∷ [], (words.0, refl), (is.1, (words.1, refl), is.2), refl),
-      line.2 ∙ ap (λ (l : List ℕ). l ++ 10 ∷ []) words.2 ∙ sym (two_words (codes "port add ") (decimal is.0) (decimal is.1) 32 10),
-    ))
-    (form_behind (codes "port add ") (form_then (number_form 1 1024 32 (omega arith) (omega arith)) (λ p. form_map (PortAdd p) (number_form 1 4094 10 (omega arith) (omega arith)))))
+exact_port_add = exact_one port_class (λ w p p_is. exact_one vlan_class (λ u v v_is. exact_ended (refl, (refl, (p_is, (v_is, tt))))))
 
-port_up_form : Form (λ act text. (p : ℕ) × (act ≡ PortUp p) × IsActLine (PortUp p) text) (λ bytes. after (codes "port up ") bytes >>= port_up_at)
+exact_port_del : Exact port_del_at (Behind (codes "port" ∷ codes "del" ∷ []))
+unfolding port_del_at
+exact_port_del = exact_one port_class (λ w p p_is. exact_ended (refl, (refl, (p_is, tt))))
+
+exact_port_vlan : Exact port_vlan_at (Behind (codes "port" ∷ codes "vlan" ∷ []))
+unfolding port_vlan_at
+exact_port_vlan = exact_one port_class (λ w p p_is. exact_one vlan_class (λ u v v_is. exact_ended (refl, (refl, (p_is, (v_is, tt))))))
+
+exact_port_up : Exact port_up_at (Behind (codes "port" ∷ codes "up" ∷ []))
 unfolding port_up_at
-port_up_form =
-    form_is
-    (λ act text is. let it = is.1 in (it.0, it.2, (codes "port up " ++ decimal it.0, (it.1.0, refl), is.2 ∙ ap (λ (l : List ℕ). codes "port up " ++ l) it.1.1 ∙ sym (append_assoc (codes "port up ") (decimal it.0) (10 ∷ [])))))
-    (λ act text is.
-    let line = is.2 in let words = line.1 in
-    (decimal is.0 ++ 10 ∷ [], (is.0, (words.0, refl), is.1), line.2 ∙ ap (λ (l : List ℕ). l ++ 10 ∷ []) words.1 ∙ append_assoc (codes "port up ") (decimal is.0) (10 ∷ [])))
-    (form_behind (codes "port up ") (form_map PortUp (number_form 1 1024 10 (omega arith) (omega arith))))
+exact_port_up = exact_one port_class (λ w p p_is. exact_ended (refl, (refl, (p_is, tt))))
 
-port_down_form : Form (λ act text. (p : ℕ) × (act ≡ PortDown p) × IsActLine (PortDown p) text) (λ bytes. after (codes "port down ") bytes >>= port_down_at)
+exact_port_down : Exact port_down_at (Behind (codes "port" ∷ codes "down" ∷ []))
 unfolding port_down_at
-port_down_form =
-    form_is
-    (λ act text is. let it = is.1 in (it.0, it.2, (codes "port down " ++ decimal it.0, (it.1.0, refl), is.2 ∙ ap (λ (l : List ℕ). codes "port down " ++ l) it.1.1 ∙ sym (append_assoc (codes "port down ") (decimal it.0) (10 ∷ [])))))
-    (λ act text is.
-    let line = is.2 in let words = line.1 in
-    (decimal is.0 ++ 10 ∷ [], (is.0, (words.0, refl), is.1), line.2 ∙ ap (λ (l : List ℕ). l ++ 10 ∷ []) words.1 ∙ append_assoc (codes "port down ") (decimal is.0) (10 ∷ [])))
-    (form_behind (codes "port down ") (form_map PortDown (number_form 1 1024 10 (omega arith) (omega arith))))
+exact_port_down = exact_one port_class (λ w p p_is. exact_ended (refl, (refl, (p_is, tt))))
 
--- three words, up to the line's end
-three_words : (k d m e : List ℕ) (s t n : ℕ) → k ++ ((d ++ s ∷ []) ++ (m ++ t ∷ (e ++ n ∷ []))) ≡ (k ++ (d ++ s ∷ (m ++ t ∷ e))) ++ n ∷ []
-three_words k d m e s t n =
-    ap (λ (l : List ℕ). k ++ ((d ++ s ∷ []) ++ l)) (sym (append_assoc m (t ∷ e) (n ∷ []))) ∙ two_words k d (m ++ t ∷ e) s n
+exact_intf_add : Exact intf_add_at (Behind (codes "intf" ∷ codes "add" ∷ []))
+unfolding intf_add_at
+exact_intf_add = exact_one intf_class (λ w i i_is. exact_one vlan_class (λ u v v_is. exact_one vrf_class (λ t n n_is. exact_one mac_class (λ s m m_is. exact_ended (refl, (refl, (i_is, (v_is, (n_is, (m_is, tt))))))))))
 
-mac_set_form : Form (λ act text. (v : ℕ) × (m : ℕ) × (p : ℕ) × (act ≡ MacSet v m p) × IsActLine (MacSet v m p) text) (λ bytes. after (codes "mac set ") bytes >>= mac_set_at)
+exact_intf_del : Exact intf_del_at (Behind (codes "intf" ∷ codes "del" ∷ []))
+unfolding intf_del_at
+exact_intf_del = exact_one intf_class (λ w i i_is. exact_ended (refl, (refl, (i_is, tt))))
+
+exact_addr_add : Exact addr_add_at (Behind (codes "addr" ∷ codes "add" ∷ []))
+unfolding addr_add_at
+exact_addr_add = exact_one intf_class (λ w i i_is. exact_one addr_class (λ u a a_is. exact_ended (refl, (refl, (i_is, (a_is, tt))))))
+
+exact_addr_del : Exact addr_del_at (Behind (codes "addr" ∷ codes "del" ∷ []))
+unfolding addr_del_at
+exact_addr_del = exact_one intf_class (λ w i i_is. exact_one addr_class (λ u a a_is. exact_ended (refl, (refl, (i_is, (a_is, tt))))))
+
+exact_neighbor_set : Exact neighbor_set_at (Behind (codes "neighbor" ∷ codes "set" ∷ []))
+unfolding neighbor_set_at
+exact_neighbor_set = exact_one intf_class (λ w i i_is. exact_one ip_class (λ u a a_is. exact_one mac_class (λ t m m_is. exact_one port_class (λ s p p_is. exact_ended (refl, (refl, (i_is, (a_is, (m_is, (p_is, tt))))))))))
+
+exact_neighbor_pending : Exact neighbor_pending_at (Behind (codes "neighbor" ∷ codes "pending" ∷ []))
+unfolding neighbor_pending_at
+exact_neighbor_pending = exact_one intf_class (λ w i i_is. exact_one ip_class (λ u a a_is. exact_ended (refl, (refl, (i_is, (a_is, tt))))))
+
+exact_neighbor_del : Exact neighbor_del_at (Behind (codes "neighbor" ∷ codes "del" ∷ []))
+unfolding neighbor_del_at
+exact_neighbor_del = exact_one intf_class (λ w i i_is. exact_one ip_class (λ u a a_is. exact_ended (refl, (refl, (i_is, (a_is, tt))))))
+
+exact_mac_set : Exact mac_set_at (Behind (codes "mac" ∷ codes "set" ∷ []))
 unfolding mac_set_at
-mac_set_form =
-    form_is
-    (λ act text is.
-    let it = is.1 in let mac = it.4 in let port = mac.4.1 in (
-      it.0,
-      mac.0,
-      port.0,
-      port.2,
-      (
-        codes "mac set " ++ (decimal it.0 ++ 32 ∷ (mac.1 ++ 32 ∷ decimal port.0)),
-        (it.3.0, port.1.0, mac.1, mac.3, refl),
-        is.2 ∙ ap (λ (l : List ℕ). codes "mac set " ++ l) (it.5 ∙ ap (λ (l : List ℕ). l ++ it.2) it.3.1 ∙ ap (λ (l : List ℕ). (decimal it.0 ++ 32 ∷ []) ++ l) (mac.5 ∙ ap (λ (l : List ℕ). mac.1 ++ l) (mac.4.2 ∙ ap (λ (l : List ℕ). 32 ∷ l) port.1.1)))
-            ∙ three_words (codes "mac set ") (decimal it.0) mac.1 (decimal port.0) 32 32 10,
-      ),
-    ))
-    (λ act text is.
-    let line = is.4 in let words = line.1 in
-    let last = decimal is.2 ++ 10 ∷ [] in (
-      (decimal is.0 ++ 32 ∷ []) ++ (words.2 ++ 32 ∷ last),
-      (is.0, decimal is.0 ++ 32 ∷ [], words.2 ++ 32 ∷ last, (words.0, refl), (is.1, words.2, 32 ∷ last, words.3, (last, (is.2, (words.1, refl), is.3), refl), refl), refl),
-      line.2 ∙ ap (λ (l : List ℕ). l ++ 10 ∷ []) words.4 ∙ sym (three_words (codes "mac set ") (decimal is.0) words.2 (decimal is.2) 32 32 10),
-    ))
-    (form_behind (codes "mac set ") (form_then (number_form 1 4094 32 (omega arith) (omega arith)) (λ v. form_then mac_form (λ m. form_behind (codes " ") (form_map (MacSet v m) (number_form 1 1024 10 (omega arith) (omega arith)))))))
+exact_mac_set = exact_one vlan_class (λ w v v_is. exact_one mac_class (λ u m m_is. exact_one port_class (λ t p p_is. exact_ended (refl, (refl, (v_is, (m_is, (p_is, tt))))))))
 
--- what is read is the line of that act
-abbrev Taken : List ℕ → Act × List ℕ → Type 0
-Taken bytes x = (text : List ℕ) × IsActLine x.0 text × (bytes ≡ text ++ x.1)
+exact_mac_del : Exact mac_del_at (Behind (codes "mac" ∷ codes "del" ∷ []))
+unfolding mac_del_at
+exact_mac_del = exact_one vlan_class (λ w v v_is. exact_one mac_class (λ u m m_is. exact_ended (refl, (refl, (v_is, (m_is, tt))))))
 
-taken : (bytes text : List ℕ) (x : Act × List ℕ) (act : Act) → x.0 ≡ act → IsActLine act text → bytes ≡ text ++ x.1 → Taken bytes x
-taken bytes text x act same is split = (text, subst (λ (a : Act). IsActLine a text) (sym same) is, split)
+exact_route_set : Exact route_set_at (Behind (codes "route" ∷ codes "set" ∷ []))
+unfolding route_set_at
+exact_route_set = exact_one vrf_class (λ w n n_is. exact_one prefix_class (λ u p p_is. exact_one client_class (λ t c c_is. exact_map (RouteSet n p c) (λ rest ws is. (refl, (refl, (n_is, (p_is, (c_is, is)))))) exact_via)))
 
-act_takes : (bytes : List ℕ) (x : Act × List ℕ) → act_at bytes ≡ Some x → Taken bytes x
+exact_route_del : Exact route_del_at (Behind (codes "route" ∷ codes "del" ∷ []))
+unfolding route_del_at
+exact_route_del = exact_one vrf_class (λ w n n_is. exact_one prefix_class (λ u p p_is. exact_one client_class (λ t c c_is. exact_ended (refl, (refl, (n_is, (p_is, (c_is, tt))))))))
+
+exact_client_sync : Exact client_sync_at (Behind (codes "client" ∷ codes "sync" ∷ []))
+unfolding client_sync_at
+exact_client_sync = exact_one vrf_class (λ w n n_is. exact_one client_class (λ u c c_is. exact_map (ClientSync n c) (λ rest ws is. (refl, (refl, (n_is, (c_is, is))))) exact_items))
+
+pub exact_act : Exact act_at (λ a ws. AreWords (act a) ws)
+unfolding act_at vlan_at port_at intf_at addr_at neighbor_at mac_at route_at client_at
+exact_act =
+    exact_choose (codes "vlan") (exact_choose (codes "add") exact_vlan_add (partly_choose (codes "del") exact_vlan_del partly_bad))
+    (partly_choose (codes "port") (exact_choose (codes "add") exact_port_add (partly_choose (codes "del") exact_port_del (partly_choose (codes "vlan") exact_port_vlan (partly_choose (codes "up") exact_port_up (partly_choose (codes "down") exact_port_down partly_bad)))))
+    (partly_choose (codes "intf") (exact_choose (codes "add") exact_intf_add (partly_choose (codes "del") exact_intf_del partly_bad))
+    (partly_choose (codes "addr") (exact_choose (codes "add") exact_addr_add (partly_choose (codes "del") exact_addr_del partly_bad))
+    (partly_choose (codes "neighbor") (exact_choose (codes "set") exact_neighbor_set (partly_choose (codes "pending") exact_neighbor_pending (partly_choose (codes "del") exact_neighbor_del partly_bad)))
+    (partly_choose (codes "mac") (exact_choose (codes "set") exact_mac_set (partly_choose (codes "del") exact_mac_del partly_bad))
+    (partly_choose (codes "route") (exact_choose (codes "set") exact_route_set (partly_choose (codes "del") exact_route_del partly_bad))
+    (partly_choose (codes "client") (exact_choose (codes "sync") exact_client_sync partly_bad) partly_bad)))))))
+
+vlan_first : {ts : List Token} {a : Act} → Again vlan_at ts a → Again act_at (key (codes "vlan") ∷ ts) a
 unfolding act_at
-act_takes bytes x e =
-    let mac = follow (after (codes "mac set ") bytes) mac_set_at None in
-    let down = follow (after (codes "port down ") bytes) port_down_at mac in
-    let up = follow (after (codes "port up ") bytes) port_up_at down in
-    let add = follow (after (codes "port add ") bytes) port_add_at up in
-    elim (follow_takes (after (codes "vlan add ") bytes) vlan_add_at add x e) [
-      | inl a ↦ let t = vlan_add_form.takes bytes x a in taken bytes t.0 x _ t.1.2 t.1.3 t.2
-      | inr e1 ↦ elim (follow_takes (after (codes "port add ") bytes) port_add_at up x e1) [
-        | inl a ↦ let t = port_add_form.takes bytes x a in taken bytes t.0 x _ t.1.2 t.1.3 t.2
-        | inr e2 ↦ elim (follow_takes (after (codes "port up ") bytes) port_up_at down x e2) [
-          | inl a ↦ let t = port_up_form.takes bytes x a in taken bytes t.0 x _ t.1.1 t.1.2 t.2
-          | inr e3 ↦ elim (follow_takes (after (codes "port down ") bytes) port_down_at mac x e3) [
-            | inl a ↦ let t = port_down_form.takes bytes x a in taken bytes t.0 x _ t.1.1 t.1.2 t.2
-            | inr e4 ↦ elim (follow_takes (after (codes "mac set ") bytes) mac_set_at None x e4) [
-              | inl a ↦ let t = mac_set_form.takes bytes x a in taken bytes t.0 x _ t.1.3 t.1.4 t.2
-              | inr none ↦ absurd (no_value x none)
-            ]
-          ]
-        ]
-      ]
-    ]
+vlan_first a = again_here _ a
 
-act_again : (act : Act) (text rest : List ℕ) → IsActLine act text → act_at (text ++ rest) ≡ Some (act, rest)
+port_first : {ts : List Token} {a : Act} → Again port_at ts a → Again act_at (key (codes "port") ∷ ts) a
 unfolding act_at
-act_again (VlanAdd v name) text rest is =
-    let line = (codes "vlan add " ++ (decimal v ++ 32 ∷ name)) ++ 10 ∷ [] in
-    ap (λ (l : List ℕ). act_at (l ++ rest)) (is.2 ∙ ap (λ (l : List ℕ). l ++ 10 ∷ []) is.1.2)
-    ∙ vlan_add_form.again (VlanAdd v name) line rest (v, name, refl, (codes "vlan add " ++ (decimal v ++ 32 ∷ name), (is.1.0, is.1.1, refl), refl))
-act_again (PortAdd p v) text rest is =
-    let line = (codes "port add " ++ (decimal p ++ 32 ∷ decimal v)) ++ 10 ∷ [] in
-    ap (λ (l : List ℕ). act_at (l ++ rest)) (is.2 ∙ ap (λ (l : List ℕ). l ++ 10 ∷ []) is.1.2)
-    ∙ port_add_form.again (PortAdd p v) line rest (p, v, refl, (codes "port add " ++ (decimal p ++ 32 ∷ decimal v), (is.1.0, is.1.1, refl), refl))
-act_again (PortUp p) text rest is =
-    let line = (codes "port up " ++ decimal p) ++ 10 ∷ [] in
-    ap (λ (l : List ℕ). act_at (l ++ rest)) (is.2 ∙ ap (λ (l : List ℕ). l ++ 10 ∷ []) is.1.1)
-    ∙ port_up_form.again (PortUp p) line rest (p, refl, (codes "port up " ++ decimal p, (is.1.0, refl), refl))
-act_again (PortDown p) text rest is =
-    let line = (codes "port down " ++ decimal p) ++ 10 ∷ [] in
-    ap (λ (l : List ℕ). act_at (l ++ rest)) (is.2 ∙ ap (λ (l : List ℕ). l ++ 10 ∷ []) is.1.1)
-    ∙ port_down_form.again (PortDown p) line rest (p, refl, (codes "port down " ++ decimal p, (is.1.0, refl), refl))
-act_again (MacSet v m p) text rest is =
-    let words = codes "mac set " ++ (decimal v ++ 32 ∷ (is.1.2 ++ 32 ∷ decimal p)) in
-    ap (λ (l : List ℕ). act_at (l ++ rest)) (is.2 ∙ ap (λ (l : List ℕ). l ++ 10 ∷ []) is.1.4)
-    ∙ mac_set_form.again (MacSet v m p) (words ++ 10 ∷ []) rest (v, m, p, refl, (words, (is.1.0, is.1.1, is.1.2, is.1.3, refl), refl))
-act_again _ text rest is = absurd is.1
+port_first a = again_next _ _ refl (again_here _ a)
 
-act_form : Form IsActLine act_at
-act_form = record { takes = act_takes; again = act_again }
+intf_first : {ts : List Token} {a : Act} → Again intf_at ts a → Again act_at (key (codes "intf") ∷ ts) a
+unfolding act_at
+intf_first a = again_next _ _ refl (again_next _ _ refl (again_here _ a))
 
-pub line_form : (number : ℕ) → Form (λ line text. (line.line ≡ number) × IsLine line text) (line_at number)
-unfolding line_at
-line_form number =
-    form_is
-    (λ line text is.
-    let it = is.1 in
-    let own : (it.0 ≡ it.0) × IsActText it.0 it.1.0 = (refl, it.1.1) in
-    let whole : text ≡ codes "0 " ++ (it.1.0 ++ codes "\n") = is.2 ∙ ap (λ (l : List ℕ). codes "0 " ++ l) it.1.2 in
-    subst (λ (l : Line). (l.line ≡ number) × IsLine l text) (sym it.2) (refl, (refl, refl, it.1.0, it.1.1, whole)))
-    (λ line text is.
-    let it = is.1 in
-    let same : line ≡ line_of number line.update.act = λ i. record { line = is.0 i; caller = it.0 i; update = record { alone = it.1 i; act = line.update.act } } in
-    (it.2 ++ codes "\n", (line.update.act, (it.2, it.3, refl), same), it.4))
-    (form_behind (codes "0 ") (form_map (line_of number) act_form))
+addr_first : {ts : List Token} {a : Act} → Again addr_at ts a → Again act_at (key (codes "addr") ∷ ts) a
+unfolding act_at
+addr_first a = again_next _ _ refl (again_next _ _ refl (again_next _ _ refl (again_here _ a)))
+
+neighbor_first : {ts : List Token} {a : Act} → Again neighbor_at ts a → Again act_at (key (codes "neighbor") ∷ ts) a
+unfolding act_at
+neighbor_first a = again_next _ _ refl (again_next _ _ refl (again_next _ _ refl (again_next _ _ refl (again_here _ a))))
+
+mac_first : {ts : List Token} {a : Act} → Again mac_at ts a → Again act_at (key (codes "mac") ∷ ts) a
+unfolding act_at
+mac_first a = again_next _ _ refl (again_next _ _ refl (again_next _ _ refl (again_next _ _ refl (again_next _ _ refl (again_here _ a)))))
+
+route_first : {ts : List Token} {a : Act} → Again route_at ts a → Again act_at (key (codes "route") ∷ ts) a
+unfolding act_at
+route_first a = again_next _ _ refl (again_next _ _ refl (again_next _ _ refl (again_next _ _ refl (again_next _ _ refl (again_next _ _ refl (again_here _ a))))))
+
+client_first : {ts : List Token} {a : Act} → Again client_at ts a → Again act_at (key (codes "client") ∷ ts) a
+unfolding act_at
+client_first a = again_next _ _ refl (again_next _ _ refl (again_next _ _ refl (again_next _ _ refl (again_next _ _ refl (again_next _ _ refl (again_next _ _ refl (again_here _ a)))))))
+
+pub act_again : (a : Act) → Again act_at (act a) a
+unfolding vlan_add_at vlan_del_at port_add_at port_del_at port_vlan_at port_up_at port_down_at intf_add_at intf_del_at addr_add_at addr_del_at neighbor_set_at neighbor_pending_at neighbor_del_at mac_set_at mac_del_at route_set_at route_del_at client_sync_at vlan_at port_at intf_at addr_at neighbor_at mac_at route_at client_at
+act_again (VlanAdd v n) = vlan_first (again_here _ (again_one _ vlan_class (again_one _ vlan_name_class (again_ended))))
+act_again (VlanDel v) = vlan_first (again_next _ _ refl (again_here _ (again_one _ vlan_class (again_ended))))
+act_again (PortAdd p v) = port_first (again_here _ (again_one _ port_class (again_one _ vlan_class (again_ended))))
+act_again (PortDel p) = port_first (again_next _ _ refl (again_here _ (again_one _ port_class (again_ended))))
+act_again (PortVlan p v) = port_first (again_next _ _ refl (again_next _ _ refl (again_here _ (again_one _ port_class (again_one _ vlan_class (again_ended))))))
+act_again (PortUp p) = port_first (again_next _ _ refl (again_next _ _ refl (again_next _ _ refl (again_here _ (again_one _ port_class (again_ended))))))
+act_again (PortDown p) = port_first (again_next _ _ refl (again_next _ _ refl (again_next _ _ refl (again_next _ _ refl (again_here _ (again_one _ port_class (again_ended)))))))
+act_again (IntfAdd i v n m) = intf_first (again_here _ (again_one _ intf_class (again_one _ vlan_class (again_one _ vrf_class (again_one _ mac_class (again_ended))))))
+act_again (IntfDel i) = intf_first (again_next _ _ refl (again_here _ (again_one _ intf_class (again_ended))))
+act_again (AddrAdd i a) = addr_first (again_here _ (again_one _ intf_class (again_one _ addr_class (again_ended))))
+act_again (AddrDel i a) = addr_first (again_next _ _ refl (again_here _ (again_one _ intf_class (again_one _ addr_class (again_ended)))))
+act_again (NeighborSet i a m p) = neighbor_first (again_here _ (again_one _ intf_class (again_one _ ip_class (again_one _ mac_class (again_one _ port_class (again_ended))))))
+act_again (NeighborPending i a) = neighbor_first (again_next _ _ refl (again_here _ (again_one _ intf_class (again_one _ ip_class (again_ended)))))
+act_again (NeighborDel i a) = neighbor_first (again_next _ _ refl (again_next _ _ refl (again_here _ (again_one _ intf_class (again_one _ ip_class (again_ended))))))
+act_again (MacSet v m p) = mac_first (again_here _ (again_one _ vlan_class (again_one _ mac_class (again_one _ port_class (again_ended)))))
+act_again (MacDel v m) = mac_first (again_next _ _ refl (again_here _ (again_one _ vlan_class (again_one _ mac_class (again_ended)))))
+act_again (RouteSet n p c via) = route_first (again_here _ (again_one _ vrf_class (again_one _ prefix_class (again_one _ client_class (again_map (RouteSet n p c) (via_again via))))))
+act_again (RouteDel n p c) = route_first (again_next _ _ refl (again_here _ (again_one _ vrf_class (again_one _ prefix_class (again_one _ client_class (again_ended))))))
+act_again (ClientSync n c xs) = client_first (again_here _ (again_one _ vrf_class (again_one _ client_class (again_map (ClientSync n c) (record { again = λ ws is. items_again xs ws is })))))

@@ -1,9 +1,8 @@
-mod FieldLaws
-mod Steps
-mod Numbers
-mod Forms
-mod Fields
-mod MacLaws
-mod ActLaws
-mod WholeLaws
 mod Writes
+mod ItemLaws
+mod ActLaws
+mod EntryLaws
+mod DraftLaws
+mod ScriptLaws
+mod SaysLaws
+mod ReadBackLaws

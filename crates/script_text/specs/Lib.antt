@@ -1,3 +1,8 @@
+pub mod UpdateText
+pub mod Grammar
 pub mod Script
 pub mod Reading
-pub mod UpdateText
+pub mod Draft
+pub mod Ranges
+pub mod Values
+pub mod ReadBack

@@ -1,142 +1,222 @@
--- How a script is read from left to right: each reader gives the value at the front of the bytes, and the bytes after it.
-use Rattle.std.specs.Prelude.{ℕ, ◌≤◌, ◌+◌, ◌-◌, ◌*◌, ◌==◌, ◌&&◌, nat_le, nat_lt, Bool, false, List, [], ◌∷◌, take, drop, Option, Some, None, option_map, codes, if◌then◌else◌}
-use Rattle.std.specs.Char.{is_ascii_digit}
-use Rattle.std.specs.Str.{all_ascii_digits}
+-- Reading the lines of a script, word by word.
+use Rattle.std.specs.Prelude.{◌-◌, ℕ, suc, Bool, true, false, List, [], ◌∷◌, ◌++◌, length, Option, Some, None, Result, Ok, Err, codes, if◌then◌else◌}
+use Rattle.std.specs.Str.{bytes_eq}
+use Rattle.net_types.specs.declared.hop.Hop.{Hop}
 use Rattle.net_types.specs.declared.table.Caps.{Caps}
-use Rattle.net_types.specs.Names.{is_vlan_name}
-use Rattle.ip_text.specs.Values.{mac_of}
+use Rattle.net_types.specs.Cidr.{Cidr}
+use Rattle.ip_text.specs.Values.{ip_of, prefix_of, addr_of, mac_of, hop_of}
 use Rattle.switch_model.specs.declared.act.Act.{Act}
-use Rattle.switch_model.specs.declared.act.Act.TheVariants.{VlanAdd, PortAdd, PortUp, PortDown, MacSet}
+use Rattle.switch_model.specs.declared.act.Act.TheVariants.{VlanAdd, VlanDel, PortAdd, PortDel, PortVlan, PortUp, PortDown, IntfAdd, IntfDel, AddrAdd, AddrDel, NeighborSet, NeighborPending, NeighborDel, MacSet, MacDel, RouteSet, RouteDel, ClientSync}
+use Rattle.switch_model.specs.declared.act.Update.{Update}
+use Rattle.switch_model.specs.declared.query.Query.{Query}
+use Rattle.switch_model.specs.declared.query.Query.TheVariants as queries
+use Rattle.switch_model.specs.declared.via.Via.{Via}
+use Rattle.switch_model.specs.declared.via.Via.TheVariants.{Hops, ToCpu, Discard}
+use Rattle.script_words.specs.Grammar.{client_of}
+use Rattle.script_words.specs.Reading.{number_of, vlan_name_of, name_of, one, choose, turned, ended, bad, each}
+use Rattle.script_text.specs.declared.script.Start.{Start}
+use Rattle.script_text.specs.declared.script.Start.TheVariants.{Cold, Warm}
+use Rattle.script_text.specs.declared.script.Job.{Job}
+use Rattle.script_text.specs.declared.script.Job.TheVariants.{Submit, Settle, Pump, Peek, Tables, Show}
 use Rattle.script_text.specs.declared.script.Line.{Line}
+use Rattle.script_text.specs.declared.routes.Place.{Place}
+use Rattle.script_text.specs.declared.routes.Place.TheVariants.{First, Action, InHops, Behind, Next}
+use Rattle.script_text.specs.declared.entries.Entry.{Entry}
+use Rattle.script_text.specs.declared.entries.Entry.TheVariants.{Starts, Limits, Calls, Bases, NewPhase, Does}
+use Rattle.script_text.specs.declared.entries.Stage.{Stage}
+use Rattle.script_text.specs.declared.entries.Stage.TheVariants.{Opening, Started, Limited, Called, InPhase}
 
-infixl 10 ◌>>=◌
--- what is read next, if the first was found
-abbrev pub ◌>>=◌ : {A B : Type 0} → Option A → (A → Option B) → Option B
-None >>= f = None
-(Some x) >>= f = f x
+-- an action, to the end of the line
+unfoldable pub via_at : List (List ℕ) → Result Via ℕ
+via_at = choose (codes "via") (turned Hops (each hop_of [])) (choose (codes "cpu") (ended ToCpu) (choose (codes "drop") (ended Discard) bad))
 
--- what follows a text
-abbrev pub after : List ℕ → List ℕ → Option (List ℕ)
-after [] bytes = Some bytes
-after (t ∷ ts) [] = None
-after (t ∷ ts) (b ∷ bs) = if b == t then after ts bs else None
+-- The items of a sync, word by word.
 
--- where a keyword stood, its reader decides, and otherwise the other one
-abbrev pub follow : {A : Type 0} → Option (List ℕ) → (List ℕ → Option A) → Option A → Option A
-follow (Some rest) read other = read rest
-follow None read other = other
+-- an item behind those done
+abbrev pub put : List (Cidr × Via) → Cidr → Via → List (Cidr × Via)
+put done p via = done ++ ((p, via) ∷ [])
 
--- the bytes before the first end, and those after it
-abbrev pub cut : ℕ → List ℕ → Option (List ℕ × List ℕ)
-cut end [] = None
-cut end (b ∷ bs) = if b == end then Some ([], bs) else option_map (λ x. (b ∷ x.0, x.1)) (cut end bs)
+-- a prefix, and then its action
+abbrev pub to_action : List (Cidr × Via) → Option Cidr → Option (Place × List (Cidr × Via))
+to_action done None = None
+to_action done (Some p) = Some (Action p, done)
 
--- the value of digits behind others of that value
-abbrev pub read_on : ℕ → List ℕ → ℕ
-read_on n [] = n
-read_on n (c ∷ cs) = read_on (10 * n + (c - 48)) cs
+-- one hop more, or a semicolon that ends the item
+abbrev pub to_hop : List (Cidr × Via) → Cidr → List Hop → List ℕ → Option Hop → Option (Place × List (Cidr × Via))
+to_hop done p hs word (Some h) = Some (InHops p (hs ++ h ∷ []), done)
+to_hop done p hs word None = if bytes_eq word (codes ";") then Some (Next, put done p (Hops hs)) else None
 
--- digits, the first of several not zero
-abbrev pub is_numeral : List ℕ → Bool
-is_numeral [] = false
-is_numeral (d ∷ []) = is_ascii_digit d
-is_numeral (d ∷ e ∷ ds) = nat_lt 48 d && all_ascii_digits (d ∷ e ∷ ds)
+-- where the items stand behind a word
+abbrev pub step : Place → List (Cidr × Via) → List ℕ → Option (Place × List (Cidr × Via))
+step First done w = to_action done (prefix_of w)
+step Next done w = to_action done (prefix_of w)
+step (Action p) done w = if bytes_eq w (codes "via") then Some (InHops p [], done) else if bytes_eq w (codes "cpu") then Some (Behind, put done p ToCpu) else if bytes_eq w (codes "drop") then Some (Behind, put done p Discard) else None
+step (InHops p hs) done w = to_hop done p hs w (hop_of w)
+step Behind done w = if bytes_eq w (codes ";") then Some (Next, done) else None
 
--- in a range with both its bounds
-abbrev pub IsBetween : ℕ → ℕ → ℕ → Type 0
-IsBetween low high n = (low ≤ n) × (n ≤ high)
+-- the items, where the line may end here
+abbrev pub finish : Place → List (Cidr × Via) → Result (List (Cidr × Via)) ℕ
+finish First done = Ok done
+finish (Action p) done = Err 0
+finish (InHops p hs) done = Ok (put done p (Hops hs))
+finish Behind done = Ok done
+finish Next done = Err 0
 
--- the number that a word spells, if it is in the range
-unfoldable pub number_of : ℕ → ℕ → List ℕ → Option ℕ
-number_of low high word = if is_numeral word && (nat_le low (read_on 0 word) && nat_le (read_on 0 word) high) then Some (read_on 0 word) else None
+-- on from the next place, or the fault of the word
+abbrev pub items_on : Option (Place × List (Cidr × Via)) → (Place → List (Cidr × Via) → Result (List (Cidr × Via)) ℕ) → ℕ → Result (List (Cidr × Via)) ℕ
+items_on None more left = Err (suc left)
+items_on (Some s) more left = more s.0 s.1
 
--- a number in the range, and the byte that ends it
-unfoldable pub number_at : ℕ → ℕ → ℕ → List ℕ → Option (ℕ × List ℕ)
-number_at low high end bytes = do
-  word ← cut end bytes
-  n ← number_of low high word.0
-  Some (n, word.1)
+-- the items from a place on, to the end of the line
+abbrev pub items_run : Place → List (Cidr × Via) → List (List ℕ) → Result (List (Cidr × Via)) ℕ
+items_run place done [] = finish place done
+items_run place done (w ∷ ws) = items_on (step place done w) (λ p d. items_run p d ws) (length ws)
 
--- a VLAN's name, and the line's end
-unfoldable pub name_at : List ℕ → Option (List ℕ × List ℕ)
-name_at bytes = do
-  word ← cut 10 bytes
-  if is_vlan_name word.0 then Some word else None
+-- The acts, each behind its two keywords.
 
--- a MAC address, whose texts have 17 bytes
-unfoldable pub mac_at : List ℕ → Option (ℕ × List ℕ)
-mac_at bytes = option_map (λ mac. (mac, drop 17 bytes)) (mac_of (take 17 bytes))
+unfoldable pub vlan_add_at : List (List ℕ) → Result Act ℕ
+vlan_add_at = one (number_of 1 4094) (λ v. one vlan_name_of (λ n. ended (VlanAdd v n)))
 
--- the rest of a line behind `vlan add `
-unfoldable pub vlan_add_at : List ℕ → Option (Act × List ℕ)
-vlan_add_at bytes = do
-  vlan ← number_at 1 4094 32 bytes
-  name ← name_at vlan.1
-  Some (VlanAdd vlan.0 name.0, name.1)
+unfoldable pub vlan_del_at : List (List ℕ) → Result Act ℕ
+vlan_del_at = one (number_of 1 4094) (λ v. ended (VlanDel v))
 
--- the rest of a line behind `port add `
-unfoldable pub port_add_at : List ℕ → Option (Act × List ℕ)
-port_add_at bytes = do
-  port ← number_at 1 1024 32 bytes
-  vlan ← number_at 1 4094 10 port.1
-  Some (PortAdd port.0 vlan.0, vlan.1)
+unfoldable pub port_add_at : List (List ℕ) → Result Act ℕ
+port_add_at = one (number_of 1 1024) (λ p. one (number_of 1 4094) (λ v. ended (PortAdd p v)))
 
--- the rest of a line behind `port up `
-unfoldable pub port_up_at : List ℕ → Option (Act × List ℕ)
-port_up_at bytes = do
-  port ← number_at 1 1024 10 bytes
-  Some (PortUp port.0, port.1)
+unfoldable pub port_del_at : List (List ℕ) → Result Act ℕ
+port_del_at = one (number_of 1 1024) (λ p. ended (PortDel p))
 
--- the rest of a line behind `port down `
-unfoldable pub port_down_at : List ℕ → Option (Act × List ℕ)
-port_down_at bytes = do
-  port ← number_at 1 1024 10 bytes
-  Some (PortDown port.0, port.1)
+unfoldable pub port_vlan_at : List (List ℕ) → Result Act ℕ
+port_vlan_at = one (number_of 1 1024) (λ p. one (number_of 1 4094) (λ v. ended (PortVlan p v)))
 
--- the rest of a line behind `mac set `
-unfoldable pub mac_set_at : List ℕ → Option (Act × List ℕ)
-mac_set_at bytes = do
-  vlan ← number_at 1 4094 32 bytes
-  mac ← mac_at vlan.1
-  rest ← after (codes " ") mac.1
-  port ← number_at 1 1024 10 rest
-  Some (MacSet vlan.0 mac.0 port.0, port.1)
+unfoldable pub port_up_at : List (List ℕ) → Result Act ℕ
+port_up_at = one (number_of 1 1024) (λ p. ended (PortUp p))
 
--- an act by its keyword, and the line's end
-unfoldable pub act_at : List ℕ → Option (Act × List ℕ)
-act_at bytes =
-    follow (after (codes "vlan add ") bytes) vlan_add_at
-    (follow (after (codes "port add ") bytes) port_add_at
-    (follow (after (codes "port up ") bytes) port_up_at
-    (follow (after (codes "port down ") bytes) port_down_at
-    (follow (after (codes "mac set ") bytes) mac_set_at None))))
+unfoldable pub port_down_at : List (List ℕ) → Result Act ℕ
+port_down_at = one (number_of 1 1024) (λ p. ended (PortDown p))
 
--- the line of an update by the caller 0 that isn't marked `alone`
-abbrev pub line_of : ℕ → Act → Line
-line_of number act = record { line = number; caller = 0; update = record { alone = false; act = act } }
+unfoldable pub intf_add_at : List (List ℕ) → Result Act ℕ
+intf_add_at = one (number_of 1 4294967295) (λ i. one (number_of 1 4094) (λ v. one (number_of 0 65535) (λ n. one mac_of (λ m. ended (IntfAdd i v n m)))))
 
--- a whole line of that number
-unfoldable pub line_at : ℕ → List ℕ → Option (Line × List ℕ)
-line_at number bytes = do
-  rest ← after (codes "0 ") bytes
-  act ← act_at rest
-  Some (line_of number act.0, act.1)
+unfoldable pub intf_del_at : List (List ℕ) → Result Act ℕ
+intf_del_at = one (number_of 1 4294967295) (λ i. ended (IntfDel i))
 
--- the four capacities, and the line's end
-unfoldable pub caps_at : List ℕ → Option (Caps × List ℕ)
-caps_at bytes = do
-  l2 ← number_at 0 65536 32 bytes
-  host ← number_at 0 65536 32 l2.1
-  group ← number_at 0 4096 32 host.1
-  route ← number_at 0 65536 10 group.1
-  Some (record { l2 = l2.0; host = host.0; group = group.0; route = route.0 }, route.1)
+unfoldable pub addr_add_at : List (List ℕ) → Result Act ℕ
+addr_add_at = one (number_of 1 4294967295) (λ i. one addr_of (λ a. ended (AddrAdd i a)))
 
--- the first three lines: the capacities and the limit
-unfoldable pub head_at : List ℕ → Option ((Caps × ℕ) × List ℕ)
-head_at bytes = do
-  rest ← after (codes "start cold ") bytes
-  caps ← caps_at rest
-  rest ← after (codes "limit ") caps.1
-  limit ← number_at 1 1000000 10 rest
-  rest ← after (codes "callers 1\n") limit.1
-  Some ((caps.0, limit.0), rest)
+unfoldable pub addr_del_at : List (List ℕ) → Result Act ℕ
+addr_del_at = one (number_of 1 4294967295) (λ i. one addr_of (λ a. ended (AddrDel i a)))
+
+unfoldable pub neighbor_set_at : List (List ℕ) → Result Act ℕ
+neighbor_set_at = one (number_of 1 4294967295) (λ i. one ip_of (λ a. one mac_of (λ m. one (number_of 1 1024) (λ p. ended (NeighborSet i a m p)))))
+
+unfoldable pub neighbor_pending_at : List (List ℕ) → Result Act ℕ
+neighbor_pending_at = one (number_of 1 4294967295) (λ i. one ip_of (λ a. ended (NeighborPending i a)))
+
+unfoldable pub neighbor_del_at : List (List ℕ) → Result Act ℕ
+neighbor_del_at = one (number_of 1 4294967295) (λ i. one ip_of (λ a. ended (NeighborDel i a)))
+
+unfoldable pub mac_set_at : List (List ℕ) → Result Act ℕ
+mac_set_at = one (number_of 1 4094) (λ v. one mac_of (λ m. one (number_of 1 1024) (λ p. ended (MacSet v m p))))
+
+unfoldable pub mac_del_at : List (List ℕ) → Result Act ℕ
+mac_del_at = one (number_of 1 4094) (λ v. one mac_of (λ m. ended (MacDel v m)))
+
+unfoldable pub route_set_at : List (List ℕ) → Result Act ℕ
+route_set_at = one (number_of 0 65535) (λ n. one prefix_of (λ p. one client_of (λ c. turned (RouteSet n p c) via_at)))
+
+unfoldable pub route_del_at : List (List ℕ) → Result Act ℕ
+route_del_at = one (number_of 0 65535) (λ n. one prefix_of (λ p. one client_of (λ c. ended (RouteDel n p c))))
+
+unfoldable pub client_sync_at : List (List ℕ) → Result Act ℕ
+client_sync_at = one (number_of 0 65535) (λ n. one client_of (λ c. turned (ClientSync n c) (items_run First [])))
+
+-- The acts behind their first keyword.
+
+unfoldable pub vlan_at : List (List ℕ) → Result Act ℕ
+vlan_at = choose (codes "add") vlan_add_at (choose (codes "del") vlan_del_at bad)
+
+unfoldable pub port_at : List (List ℕ) → Result Act ℕ
+port_at = choose (codes "add") port_add_at (choose (codes "del") port_del_at (choose (codes "vlan") port_vlan_at (choose (codes "up") port_up_at (choose (codes "down") port_down_at bad))))
+
+unfoldable pub intf_at : List (List ℕ) → Result Act ℕ
+intf_at = choose (codes "add") intf_add_at (choose (codes "del") intf_del_at bad)
+
+unfoldable pub addr_at : List (List ℕ) → Result Act ℕ
+addr_at = choose (codes "add") addr_add_at (choose (codes "del") addr_del_at bad)
+
+unfoldable pub neighbor_at : List (List ℕ) → Result Act ℕ
+neighbor_at = choose (codes "set") neighbor_set_at (choose (codes "pending") neighbor_pending_at (choose (codes "del") neighbor_del_at bad))
+
+unfoldable pub mac_at : List (List ℕ) → Result Act ℕ
+mac_at = choose (codes "set") mac_set_at (choose (codes "del") mac_del_at bad)
+
+unfoldable pub route_at : List (List ℕ) → Result Act ℕ
+route_at = choose (codes "set") route_set_at (choose (codes "del") route_del_at bad)
+
+unfoldable pub client_at : List (List ℕ) → Result Act ℕ
+client_at = choose (codes "sync") client_sync_at bad
+
+-- an act by its keywords, to the end of the line
+unfoldable pub act_at : List (List ℕ) → Result Act ℕ
+act_at =
+    choose (codes "vlan") vlan_at (choose (codes "port") port_at (choose (codes "intf") intf_at (choose (codes "addr") addr_at
+    (choose (codes "neighbor") neighbor_at (choose (codes "mac") mac_at (choose (codes "route") route_at (choose (codes "client") client_at bad)))))))
+
+-- an act with or without its mark
+abbrev pub update_of : Bool → Act → Update
+update_of alone act = record { alone = alone; act = act }
+
+unfoldable pub update_at : List (List ℕ) → Result Update ℕ
+update_at = choose (codes "alone") (turned (update_of true) act_at) (turned (update_of false) act_at)
+
+unfoldable pub query_at : List (List ℕ) → Result Query ℕ
+query_at =
+    choose (codes "version") (ended queries.Version) (choose (codes "counts") (ended queries.Counts)
+    (choose (codes "port") (one (number_of 1 1024) (λ p. ended (queries.Port p))) (choose (codes "route") (one (number_of 0 65535) (λ n. one ip_of (λ a. ended (queries.Route n a)))) bad)))
+
+-- what a caller does, to the end of the line
+unfoldable pub job_at : List (List ℕ) → Result Job ℕ
+job_at =
+    choose (codes "settle") (ended Settle) (choose (codes "pump") (ended Pump) (choose (codes "peek") (ended Peek) (choose (codes "tables") (ended Tables)
+    (choose (codes "show") (turned Show query_at) (choose (codes "queue") (turned (Submit true) update_at) (turned (Submit false) update_at))))))
+
+-- a line of that number
+abbrev pub line_of : ℕ → ℕ → Job → Line
+line_of n caller job = record { line = n; caller = caller; job = job }
+
+unfoldable pub line_at : ℕ → ℕ → List (List ℕ) → Result Line ℕ
+line_at callers n = one (number_of 0 (callers - 1)) (λ caller. turned (line_of n caller) job_at)
+
+-- the capacities of the l2, host, group and route table
+abbrev pub caps_of : ℕ → ℕ → ℕ → ℕ → Caps
+caps_of l2 host group route = record { l2 = l2; host = host; group = group; route = route }
+
+unfoldable pub caps_at : List (List ℕ) → Result Caps ℕ
+caps_at = one (number_of 0 65536) (λ l. one (number_of 0 65536) (λ h. one (number_of 0 4096) (λ g. one (number_of 0 65536) (λ r. ended (caps_of l h g r)))))
+
+unfoldable pub start_at : List (List ℕ) → Result Start ℕ
+start_at = choose (codes "start") (choose (codes "cold") (turned Cold caps_at) (choose (codes "warm") (one name_of (λ n. ended (Warm n))) bad)) bad
+
+unfoldable pub limit_at : List (List ℕ) → Result ℕ ℕ
+limit_at = choose (codes "limit") (one (number_of 1 1000000) (λ n. ended n)) bad
+
+unfoldable pub callers_at : List (List ℕ) → Result ℕ ℕ
+callers_at = choose (codes "callers") (one (number_of 1 16) (λ n. ended n)) bad
+
+-- a phase begins, or the other reader reads
+unfoldable pub phase_or : (List (List ℕ) → Result Entry ℕ) → List (List ℕ) → Result Entry ℕ
+phase_or = choose (codes "phase") (ended NewPhase)
+
+-- a base line may stand after a cold start alone
+unfoldable pub base_at : Bool → ℕ → List (List ℕ) → Result Entry ℕ
+base_at true n = choose (codes "base") (turned (Bases n) act_at) bad
+base_at false n = bad
+
+-- the line of that number at a stage
+unfoldable pub entry_at : Stage → ℕ → List (List ℕ) → Result Entry ℕ
+entry_at Opening n = turned Starts start_at
+entry_at (Started cold) n = turned Limits limit_at
+entry_at (Limited cold) n = turned Calls callers_at
+entry_at (Called cold c) n = phase_or (base_at cold n)
+entry_at (InPhase c) n = phase_or (turned Does (line_at c n))

@@ -1,58 +1,117 @@
--- The grammar of scripts: which bytes spell which script.
-use Rattle.std.specs.Prelude.{ℕ, ◌≡◌, ◌≤◌, ◌+◌, ◌⊎◌, true, false, List, [], ◌∷◌, ◌++◌, codes}
-use Rattle.std.specs.Fmt.{decimal}
-use Rattle.net_types.specs.declared.table.Caps.{Caps}
-use Rattle.net_types.specs.Range.{IsPort, IsVlan}
-use Rattle.net_types.specs.Names.{is_vlan_name}
-use Rattle.ip_text.specs.AddressText.{IsMac}
+-- Which lines may stand where, which of them make which script, and which line is the first bad one.
+use Rattle.std.specs.Prelude.{◌≡◌, ◌⊎◌, ◌≤◌, ◌+◌, ℕ, Bool, true, false, List, [], ◌∷◌, ◌++◌, length}
 use Rattle.switch_model.specs.declared.act.Act.{Act}
-use Rattle.switch_model.specs.declared.act.Act.TheVariants.{VlanAdd, PortAdd, PortUp, PortDown, MacSet}
+use Rattle.script_words.specs.Words.{words}
+use Rattle.script_words.specs.Lines.{lines, all_allowed, is_skipped}
+use Rattle.script_words.specs.Grammar.{AreWords}
+use Rattle.script_words.specs.Faults.{IsBadAt}
+use Rattle.script_text.specs.declared.script.Start.{Start}
+use Rattle.script_text.specs.declared.script.Start.TheVariants.{Cold, Warm}
 use Rattle.script_text.specs.declared.script.Line.{Line}
 use Rattle.script_text.specs.declared.script.Script.{Script}
+use Rattle.script_text.specs.declared.entries.Entry.{Entry}
+use Rattle.script_text.specs.declared.entries.Entry.TheVariants.{Starts, Limits, Calls, Bases, NewPhase, Does}
+use Rattle.script_text.specs.declared.entries.Stage.{Stage}
+use Rattle.script_text.specs.declared.entries.Stage.TheVariants.{Opening, Started, Limited, Called, InPhase}
+use Rattle.script_text.specs.declared.fault.ScriptFault.{ScriptFault}
+use Rattle.script_text.specs.declared.fault.ScriptFault.TheVariants.{Byte, Word, NoMemory}
+use Rattle.script_text.specs.Grammar.{start, limit, callers, base, phase, line}
 
--- the words of an act, joined by single spaces; numbers are decimal, without leading zeros; five acts have words in a script
-abbrev pub IsActText : Act → List ℕ → Type 0
-IsActText (VlanAdd vlan name) text = IsVlan vlan × (is_vlan_name name ≡ true) × (text ≡ codes "vlan add " ++ (decimal vlan ++ (codes " " ++ name)))
-IsActText (PortAdd port vlan) text = IsPort port × IsVlan vlan × (text ≡ codes "port add " ++ (decimal port ++ (codes " " ++ decimal vlan)))
-IsActText (PortUp port) text = IsPort port × (text ≡ codes "port up " ++ decimal port)
-IsActText (PortDown port) text = IsPort port × (text ≡ codes "port down " ++ decimal port)
-IsActText (MacSet vlan mac port) text =
-    IsVlan vlan × IsPort port × (m : List ℕ) × IsMac mac m × (text ≡ codes "mac set " ++ (decimal vlan ++ (codes " " ++ (m ++ (codes " " ++ decimal port)))))
-IsActText _ text = ⊥
+-- whether the script starts on an empty switch
+abbrev pub is_cold : Start → Bool
+is_cold (Cold caps) = true
+is_cold (Warm name) = false
 
--- the acts that a script may name
-abbrev pub IsServed : Act → Type 0
-IsServed (VlanAdd vlan name) = Unit {0}
-IsServed (PortAdd port vlan) = Unit {0}
-IsServed (PortUp port) = Unit {0}
-IsServed (PortDown port) = Unit {0}
-IsServed (MacSet vlan mac port) = Unit {0}
-IsServed _ = ⊥
+-- the number of callers is in its range
+abbrev pub IsStage : Stage → Type 0
+IsStage Opening = Unit {0}
+IsStage (Started cold) = Unit {0}
+IsStage (Limited cold) = Unit {0}
+IsStage (Called cold c) = (1 ≤ c) × (c ≤ 16)
+IsStage (InPhase c) = (1 ≤ c) × (c ≤ 16)
 
--- the caller's number, which is 0, and an update that isn't marked `alone`
-abbrev pub IsLine : Line → List ℕ → Type 0
-IsLine line text = (line.caller ≡ 0) × (line.update.alone ≡ false) × (act : List ℕ) × IsActText line.update.act act × (text ≡ codes "0 " ++ (act ++ codes "\n"))
+-- the line of that number may stand at the stage and has these words; base lines only after a cold start; an act or a job has the number with it
+abbrev pub IsEntry : Stage → ℕ → Entry → List (List ℕ) → Type 0
+IsEntry Opening n (Starts s) ws = AreWords (start s) ws
+IsEntry (Started cold) n (Limits m) ws = AreWords (limit m) ws
+IsEntry (Limited cold) n (Calls c) ws = AreWords (callers c) ws
+IsEntry (Called cold c) n (Bases m act) ws = (cold ≡ true) × (m ≡ n) × AreWords (base act) ws
+IsEntry (Called cold c) n NewPhase ws = AreWords phase ws
+IsEntry (InPhase c) n NewPhase ws = AreWords phase ws
+IsEntry (InPhase c) n (Does l) ws = (l.line ≡ n) × AreWords (line c l) ws
+IsEntry stage n entry ws = ⊥
 
--- lines one after another, numbered upwards from that number
-abbrev pub AreLines : ℕ → List Line → List ℕ → Type 0
-AreLines number [] text = text ≡ []
-AreLines number (line ∷ lines) text = (line.line ≡ number) × (front : List ℕ) × (back : List ℕ) × IsLine line front × AreLines (number + 1) lines back × (text ≡ front ++ back)
+-- where the script stands behind an entry
+abbrev pub behind : Stage → Entry → Stage
+behind Opening (Starts s) = Started (is_cold s)
+behind (Started cold) (Limits m) = Limited cold
+behind (Limited cold) (Calls c) = Called cold c
+behind (Called cold c) NewPhase = InPhase c
+behind stage entry = stage
 
--- the capacities of the l2, host, group and route table
-abbrev pub AreCaps : Caps → List ℕ → Type 0
-AreCaps caps text =
-    (caps.l2 ≤ 65536) × (caps.host ≤ 65536) × (caps.group ≤ 4096) × (caps.route ≤ 65536)
-    × (text ≡ decimal caps.l2 ++ (codes " " ++ (decimal caps.host ++ (codes " " ++ (decimal caps.group ++ (codes " " ++ decimal caps.route))))))
+-- the lines from that number on are good and say these things, from one stage to another
+abbrev pub AreEntries : Stage → ℕ → List (List ℕ) → List Entry → Stage → Type 0
+AreEntries s n [] entries t = (entries ≡ []) × (t ≡ s)
+AreEntries s n (line ∷ more) entries t = (all_allowed line ≡ true) × (((is_skipped (words line) ≡ true) × AreEntries s (n + 1) more entries t)
+    ⊎ ((e : Entry) × (others : List Entry) × (is_skipped (words line) ≡ false) × IsEntry s n e (words line) × AreEntries (behind s e) (n + 1) more others t × (entries ≡ e ∷ others)))
 
--- the first three lines
-abbrev pub IsHead : Caps → ℕ → List ℕ → Type 0
-IsHead caps limit text =
-    (1 ≤ limit) × (limit ≤ 1000000) × (c : List ℕ) × AreCaps caps c × (text ≡ codes "start cold " ++ (c ++ (codes "\nlimit " ++ (decimal limit ++ codes "\ncallers 1\n"))))
+-- base*
+abbrev pub base_entries : List (ℕ × Act) → List Entry
+base_entries [] = []
+base_entries (act ∷ acts) = Bases act.0 act.1 ∷ base_entries acts
 
--- nothing, or the line `phase` and the lines from the fifth on
-abbrev pub IsPhase : List Line → List ℕ → Type 0
-IsPhase lines text = ((lines ≡ []) × (text ≡ [])) ⊎ ((rest : List ℕ) × AreLines 5 lines rest × (text ≡ codes "phase\n" ++ rest))
+-- the lines of a phase
+abbrev pub line_entries : List Line → List Entry
+line_entries [] = []
+line_entries (l ∷ ls) = Does l ∷ line_entries ls
 
--- the bytes spell the script
+-- phase*, each "phase" and its lines
+abbrev pub phase_entries : List (List Line) → List Entry
+phase_entries [] = []
+phase_entries (p ∷ ps) = NewPhase ∷ (line_entries p ++ phase_entries ps)
+
+-- a script: start limit callers base* phase*
+abbrev pub script_entries : Script → List Entry
+script_entries s = Starts s.start ∷ Limits s.limit ∷ Calls s.callers ∷ (base_entries s.base ++ phase_entries s.phases)
+
+-- the lines of the bytes say the script
 abbrev pub IsScript : List ℕ → Script → Type 0
-IsScript bytes script = (head : List ℕ) × (phase : List ℕ) × IsHead script.caps script.limit head × IsPhase script.lines phase × (bytes ≡ head ++ phase)
+IsScript bytes script = (end : Stage) × AreEntries Opening 1 (lines bytes) (script_entries script) end
+
+-- the stages before the line of the callers
+abbrev pub IsHead : Stage → Type 0
+IsHead Opening = Unit {0}
+IsHead (Started cold) = Unit {0}
+IsHead (Limited cold) = Unit {0}
+IsHead (Called cold c) = ⊥
+IsHead (InPhase c) = ⊥
+
+-- line n is bad at its stage, and the lines before it are good
+pub record IsFirstBad (text : List (List ℕ)) (n : ℕ) (Bad : Stage → List ℕ → Type 0) : Type 0 where
+  pub front : List (List ℕ)
+  pub line : List ℕ
+  pub back : List (List ℕ)
+  pub entries : List Entry
+  pub stage : Stage
+  pub parts : text ≡ front ++ (line ∷ back)
+  pub good : AreEntries Opening 1 front entries stage
+  pub place : n ≡ length front + 1
+  pub bad : Bad stage line
+
+-- the words are some line that may stand here
+abbrev pub IsAllowed : Stage → ℕ → List (List ℕ) → Type 0
+IsAllowed stage n ws = (e : Entry) × IsEntry stage n e ws
+
+-- all bytes are allowed, the line isn't skipped, and word k is the first that no line begins with that may stand here
+abbrev pub IsBadWord : ℕ → ℕ → Stage → List ℕ → Type 0
+IsBadWord n k stage line = (all_allowed line ≡ true) × (is_skipped (words line) ≡ false) × IsBadAt (IsAllowed stage n) (words line) k
+
+-- all lines are good and the callers are missing: word 0 of the line behind the last
+abbrev pub EndsEarly : List (List ℕ) → ℕ → ℕ → Type 0
+EndsEarly text n k = (entries : List Entry) × (stage : Stage) × AreEntries Opening 1 text entries stage × IsHead stage × (n ≡ length text + 1) × (k ≡ 0)
+
+-- the first bad line and its cause: a byte is tested before the words, on skipped lines too
+abbrev pub IsScriptFault : List (List ℕ) → ScriptFault → Type 0
+IsScriptFault text (Byte n) = IsFirstBad text n (λ stage line. all_allowed line ≡ false)
+IsScriptFault text (Word n k) = IsFirstBad text n (IsBadWord n k) ⊎ EndsEarly text n k
+IsScriptFault text NoMemory = Unit {0}

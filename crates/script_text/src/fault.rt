@@ -1,22 +1,28 @@
 // Why no script was read.
-use std::alloc::AllocError;
+use net_types::NoMemory;
 
-/// Why no script was read.
+/// Why no script was read: the first bad line, and what is wrong with it. Lines count from 1,
+/// skipped ones included.
 #[derive(Clone, Copy, Debug, PartialEq, Eq)]
 pub enum ScriptFault {
-    /// The bytes spell no script.
-    Refused,
+    /// A byte of the line is neither a space nor a printed sign of ASCII.
+    Byte { line: u64 },
+    /// The word, counted from 0, is the first such that no line that may stand here begins with the
+    /// words up to and including it. Where the line only ends too early, it is the number of its
+    /// words, and where the script ends before the line of its callers, it is 0 at the line behind
+    /// the last one.
+    Word { line: u64, word: u64 },
     /// Memory was refused.
     NoMemory,
 }
 
-impl From<AllocError> for ScriptFault {
+impl From<NoMemory> for ScriptFault {
     ghost use Rattle.std.specs.Prelude.{◌≡◌};
     ghost use Rattle.script_text.specs.declared.fault.ScriptFault.TheVariants.{NoMemory};
 
     ghost from_gives = { λ _ fault. fault ≡ NoMemory };
 
-    fn from(_: AllocError) -> Self {
+    fn from(_: NoMemory) -> Self {
         ScriptFault::NoMemory
     }
 }

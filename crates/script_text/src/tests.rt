@@ -1,159 +1,284 @@
-use super::*;
+//! Scripts and the places of their faults.
+use crate::{Job, Line, Script, ScriptFault, Start, read_script};
+use net_types::{Client, NoMemory};
 use std::alloc::Global;
-use switch_model::Act;
+use std::test::Fail;
+use switch_model::{Act, Query, Via};
 
+/// The lines before the first phase of a small script with one caller.
 const HEAD: &[u8] = b"start cold 4 4 4 4\nlimit 10\ncallers 1\n";
 
-const WORKED: &[u8] = b"start cold 4 4 4 4
-limit 10
-callers 1
-phase
-0 vlan add 10 web
-0 port add 1 10
-0 port up 1
-0 mac set 10 02:00:00:00:00:0a 1
-0 port down 1
-";
-
-/// Reads a script that is given in two parts.
-fn read(alloc: Global, front: &[u8], back: &[u8]) -> Result<Script, ScriptFault> {
+/// What became of the parts, read as one script.
+fn read_parts(alloc: Global, parts: &[&[u8]]) -> Result<Result<Script, ScriptFault>, NoMemory> {
     let mut bytes = Vec::new(alloc);
-    bytes.extend_from_slice(front)?;
-    bytes.extend_from_slice(back)?;
-    read_script(alloc, &bytes)
+    for part in parts {
+        bytes.extend_from_slice(part)?;
+    }
+    Ok(read_script(alloc, bytes.as_slice()))
 }
 
-fn refuses(alloc: Global, front: &[u8], back: &[u8]) -> bool {
-    matches!(read(alloc, front, back), Err(ScriptFault::Refused))
-}
-
-/// The number of lines that are read: none where the script isn't.
-fn line_count(alloc: Global, front: &[u8], back: &[u8]) -> Option<usize> {
-    match read(alloc, front, back) {
-        Ok(script) => Some(script.lines.len()),
-        Err(_) => None,
+/// Where a script is bad: none where it isn't.
+fn place(read: Result<Script, ScriptFault>) -> Option<ScriptFault> {
+    match read {
+        Ok(_) => None,
+        Err(fault) => Some(fault),
     }
 }
 
-/// Whether the line has that number, the caller 0, and an update that isn't alone.
-fn stands_at(line: &Line, number: u64) -> bool {
-    line.line == number && line.caller == 0 && !line.update.alone
+fn word(line: u64, word: u64) -> Option<ScriptFault> {
+    Some(ScriptFault::Word { line, word })
 }
 
-fn names(act: &Act, wanted_vlan: u16, wanted_name: &[u8]) -> bool {
-    match act {
-        Act::VlanAdd { vlan, name } => vlan.get() == wanted_vlan && name.bytes() == wanted_name,
-        _ => false,
-    }
+/// The words of a fifth line, behind a head and a phase, up to the first bad one.
+fn fault_of_line(alloc: Global, line: &[u8]) -> Result<Option<ScriptFault>, NoMemory> {
+    let read = read_parts(alloc, &[HEAD, b"phase\n", line, b"\n"])?;
+    Ok(place(read))
 }
 
-fn learns(act: &Act, wanted_vlan: u16, wanted_mac: u64, wanted_port: u16) -> bool {
-    match act {
-        Act::MacSet { vlan, mac, port } => {
-            vlan.get() == wanted_vlan && mac.get() == wanted_mac && port.get() == wanted_port
-        }
-        _ => false,
-    }
+/// The only line of the only phase of a script whose fifth line is that one.
+fn only_line(alloc: Global, line: &[u8]) -> Result<Line, Fail> {
+    let read = read_parts(alloc, &[HEAD, b"phase\n", line])?;
+    let Ok(script) = read else {
+        return Err(Fail::new("it is read as something else"));
+    };
+    let Some(phase) = script.phases.into_vec().pop() else {
+        return Err(Fail::new("it is read as something else"));
+    };
+    let Some(line) = phase.into_vec().pop() else {
+        return Err(Fail::new("it is read as something else"));
+    };
+    Ok(line)
 }
 
 #[test]
-fn reads_the_worked_script(rt: HostRuntime) {
-    let Ok(script) = read_script(rt.alloc(), WORKED) else {
-        assert!(rt; false, "refused");
-        return;
+fn a_whole_script_is_read(rt: HostRuntime) -> Result<(), Fail> {
+    let alloc = rt.alloc();
+    let bytes =
+        b"# a comment\n\n start  cold 4 3 2 1 \nlimit 10\ncallers 2\nbase vlan add 10 web\nphase\n1 port up 7\n\n0 settle\nphase\n0 pump";
+    let Ok(script) = read_script(alloc, bytes) else {
+        return Err(Fail::new("it is read as something else"));
     };
+    let Start::Cold(caps) = &script.start else {
+        return Err(Fail::new("it is read as something else"));
+    };
+    assert_eq!(rt; caps.l2, 4);
+    assert_eq!(rt; caps.host, 3);
+    assert_eq!(rt; caps.group, 2);
+    assert_eq!(rt; caps.route, 1);
     assert_eq!(rt; script.limit, 10);
-    assert!(rt; script.caps.l2 == 4 && script.caps.host == 4);
-    assert!(rt; script.caps.group == 4 && script.caps.route == 4);
-    let [vlan_add, port_add, port_up, mac_set, port_down] = script.lines.as_slice() else {
-        assert!(rt; false, "not five lines");
-        return;
+    assert_eq!(rt; script.callers, 2);
+    let Some((line, Act::VlanAdd { vlan, name })) = script.base.at(0) else {
+        return Err(Fail::new("it is read as something else"));
     };
-    assert!(rt; stands_at(vlan_add, 5) && names(&vlan_add.update.act, 10, b"web"));
-    assert!(rt; stands_at(port_add, 6));
-    assert!(rt;
-        matches!(&port_add.update.act, Act::PortAdd { port, vlan } if port.get() == 1 && vlan.get() == 10)
-    );
-    assert!(rt; stands_at(port_up, 7));
-    assert!(rt; matches!(&port_up.update.act, Act::PortUp { port } if port.get() == 1));
-    assert!(rt; stands_at(mac_set, 8) && learns(&mac_set.update.act, 10, 0x0200_0000_000a, 1));
-    assert!(rt; stands_at(port_down, 9));
-    assert!(rt; matches!(&port_down.update.act, Act::PortDown { port } if port.get() == 1));
+    assert_eq!(rt; *line, 6);
+    assert_eq!(rt; vlan.get(), 10);
+    assert_eq!(rt; name.bytes(), b"web".as_slice());
+    assert_eq!(rt; script.phases.len(), 2);
+    let Some(phase) = script.phases.at(0) else {
+        return Err(Fail::new("it is read as something else"));
+    };
+    assert_eq!(rt; phase.len(), 2);
+    let Some(second) = phase.at(1) else {
+        return Err(Fail::new("it is read as something else"));
+    };
+    assert_eq!(rt; second.line, 10);
+    assert_eq!(rt; second.caller, 0);
+    assert!(rt; matches!(second.job, Job::Settle));
+    Ok(())
 }
 
 #[test]
-fn reads_the_bounds(rt: HostRuntime) {
-    let head = b"start cold 65536 0 4096 65536\nlimit 1000000\ncallers 1\n";
-    let lines = b"phase\n0 mac set 4094 0A:bC:De:F0:12:fF 1024\n";
-    let Ok(script) = read(rt.alloc(), head, lines) else {
-        assert!(rt; false, "refused");
-        return;
-    };
-    assert_eq!(rt; script.limit, 1_000_000);
-    assert!(rt; script.caps.l2 == 65_536 && script.caps.host == 0);
-    assert!(rt; script.caps.group == 4_096 && script.caps.route == 65_536);
-    let [mac_set] = script.lines.as_slice() else {
-        assert!(rt; false, "not one line");
-        return;
-    };
-    assert!(rt; learns(&mac_set.update.act, 4094, 0x0abc_def0_12ff, 1024));
-}
-
-#[test]
-fn reads_a_script_without_lines(rt: HostRuntime) {
-    assert_eq!(rt; line_count(rt.alloc(), HEAD, b""), Some(0));
-    assert_eq!(rt; line_count(rt.alloc(), HEAD, b"phase\n"), Some(0));
-    assert_eq!(rt;
-        line_count(rt.alloc(), HEAD, b"phase\n0 port up 1\n"),
-        Some(1)
-    );
-}
-
-#[test]
-fn refuses_other_heads(rt: HostRuntime) {
-    let heads: [&[u8]; 10] = [
-        b"",
-        b"start cold 4 4 4 4\nlimit 10\ncallers 1",
-        b"start cold 4  4 4 4\nlimit 10\ncallers 1\n",
-        b"start cold 4 4 4\nlimit 10\ncallers 1\n",
-        b"start cold 4 65537 4 4\nlimit 10\ncallers 1\n",
-        b"start cold 4 4 4097 4\nlimit 10\ncallers 1\n",
-        b"start cold 4 4 4 4\nlimit 0\ncallers 1\n",
-        b"start cold 4 4 4 4\nlimit 1000001\ncallers 1\n",
-        b"start cold 4 4 4 4\nlimit 010\ncallers 1\n",
-        b"start cold 4 4 4 4\nlimit 10\ncallers 2\n",
-    ];
-    for head in heads {
-        assert!(rt; refuses(rt.alloc(), head, b""));
-        assert!(rt; refuses(rt.alloc(), head, b"phase\n"));
+fn marks_stand_before_an_update(rt: HostRuntime) -> Result<(), Fail> {
+    let alloc = rt.alloc();
+    for (text, queued, apart) in [
+        (b"0 port up 7".as_slice(), false, false),
+        (b"0 queue port up 7", true, false),
+        (b"0 alone port up 7", false, true),
+        (b"0 queue alone port up 7", true, true),
+    ] {
+        let line = only_line(alloc, text)?;
+        assert_eq!(rt; line.line, 5);
+        let Job::Submit { queue, update } = &line.job else {
+            return Err(Fail::new("it is read as something else"));
+        };
+        assert_eq!(rt; *queue, queued);
+        assert_eq!(rt; update.alone, apart);
+        assert!(rt; matches!(update.act, Act::PortUp { .. }));
     }
+    Ok(())
 }
 
 #[test]
-fn refuses_other_lines(rt: HostRuntime) {
-    let phases: [&[u8]; 20] = [
-        b"phase",
-        b"\n",
-        b"phase\n\n",
-        b"phase\n# up\n",
-        b"phase\n0 port up 1",
-        b"phase\n0 port up 1\nphase\n",
-        b"phase\n0 port up 1\n\xff",
-        b"phase\n0 port  up 1\n",
-        b"phase\n0 port up\t1\n",
-        b"phase\n0 port up 1 \n",
-        b"phase\n0 port up 01\n",
-        b"phase\n0 port up 1025\n",
-        b"phase\n0 port flap 1\n",
-        b"phase\n1 port up 1\n",
-        b"phase\n0 port add 1 4095\n",
-        b"phase\n0 vlan add 10 Web\n",
-        b"phase\n0 vlan add 10 a23456789012345678901234567890123\n",
-        b"phase\n0 mac set 10 02:00:00:00:00:0 1\n",
-        b"phase\n0 mac set 10 02:00:00:00:00:0g 1\n",
-        b"phase\n0 mac set 10 02-00-00-00-00-0a 1\n",
-    ];
-    for phase in phases {
-        assert!(rt; refuses(rt.alloc(), HEAD, phase));
+fn each_question_is_read(rt: HostRuntime) -> Result<(), Fail> {
+    let alloc = rt.alloc();
+    let version = only_line(alloc, b"0 show version")?;
+    assert!(rt; matches!(version.job, Job::Show(Query::Version)));
+    let counts = only_line(alloc, b"0 show counts")?;
+    assert!(rt; matches!(counts.job, Job::Show(Query::Counts)));
+    let port = only_line(alloc, b"0 show port 1024")?;
+    assert!(rt; matches!(port.job, Job::Show(Query::Port(_))));
+    let route = only_line(alloc, b"0 show route 65535 fe80::1")?;
+    assert!(rt; matches!(route.job, Job::Show(Query::Route(_, _))));
+    let peek = only_line(alloc, b"0 peek")?;
+    assert!(rt; matches!(peek.job, Job::Peek));
+    let tables = only_line(alloc, b"0 tables")?;
+    assert!(rt; matches!(tables.job, Job::Tables));
+    Ok(())
+}
+
+#[test]
+fn items_of_a_sync_stand_between_semicolons(rt: HostRuntime) -> Result<(), Fail> {
+    let alloc = rt.alloc();
+    let text =
+        b"0 client sync 7 ebgp 20.0.0.0/8 via ; ::/0 cpu ; 30.0.0.0/8 via 10.0.0.1 10.0.0.2@3";
+    let line = only_line(alloc, text)?;
+    let Job::Submit { update, .. } = &line.job else {
+        return Err(Fail::new("it is read as something else"));
+    };
+    let Act::ClientSync {
+        vrf,
+        client,
+        routes,
+    } = &update.act
+    else {
+        return Err(Fail::new("it is read as something else"));
+    };
+    assert_eq!(rt; vrf.get(), 7);
+    assert_eq!(rt; *client, Client::Ebgp);
+    assert_eq!(rt; routes.len(), 3);
+    let Some((_, Via::Hops(none))) = routes.at(0) else {
+        return Err(Fail::new("it is read as something else"));
+    };
+    assert!(rt; none.is_empty());
+    let Some((_, Via::ToCpu)) = routes.at(1) else {
+        return Err(Fail::new("it is read as something else"));
+    };
+    let Some((_, Via::Hops(hops))) = routes.at(2) else {
+        return Err(Fail::new("it is read as something else"));
+    };
+    assert_eq!(rt; hops.len(), 2);
+    Ok(())
+}
+
+#[test]
+fn a_warm_start_has_no_base(rt: HostRuntime) -> Result<(), Fail> {
+    let alloc = rt.alloc();
+    let head = b"start warm kept.1\nlimit 1\ncallers 16\n";
+    let read = read_parts(alloc, &[head, b"phase\n"])?;
+    let Ok(script) = read else {
+        return Err(Fail::new("it is read as something else"));
+    };
+    let Start::Warm(name) = &script.start else {
+        return Err(Fail::new("it is read as something else"));
+    };
+    assert_eq!(rt; name.bytes(), b"kept.1".as_slice());
+    let base = read_parts(alloc, &[head, b"base vlan add 1 a\n"])?;
+    assert_eq!(rt; place(base), word(4, 0));
+    Ok(())
+}
+
+#[test]
+fn faults_of_the_first_lines(rt: HostRuntime) -> Result<(), Fail> {
+    let alloc = rt.alloc();
+    for (text, fault) in [
+        (b"".as_slice(), word(1, 0)),
+        (b"# nothing else\n\n", word(3, 0)),
+        (b"start cold 4 4", word(1, 4)),
+        (b"start cold 65537 4 4 4\n", word(1, 2)),
+        (b"start cold 4 4 4097 4\n", word(1, 4)),
+        (b"start cold 4 4 4 4 4\n", word(1, 6)),
+        (b"start warm A\n", word(1, 2)),
+        (
+            b"start\tcold 4 4 4 4\n",
+            Some(ScriptFault::Byte { line: 1 }),
+        ),
+        (b"start cold 4 4 4 4\nlimit 10\n", word(3, 0)),
+        (b"start cold 4 4 4 4\nlimit 0\n", word(2, 1)),
+        (b"start cold 4 4 4 4\nlimit 1000001\n", word(2, 1)),
+        (b"start cold 4 4 4 4\nlimit 10\ncallers 17\n", word(3, 1)),
+        (b"start cold 4 4 4 4\nlimit 10\ncallers 01\n", word(3, 1)),
+        (b"start cold 4 4 4 4\nlimit 1000000\ncallers 16", None),
+    ] {
+        assert_eq!(rt; place(read_script(alloc, text)), fault);
     }
+    Ok(())
+}
+
+#[test]
+fn phases_begin_by_a_line_of_their_own(rt: HostRuntime) -> Result<(), Fail> {
+    let alloc = rt.alloc();
+    for (text, fault) in [
+        (b"".as_slice(), None),
+        (b"phase\nphase\n", None),
+        (b"phase x\n", word(4, 1)),
+        (b"0 settle\n", word(4, 0)),
+        (b"phase\nbase vlan add 1 a\n", word(5, 0)),
+        (b"base phase\n", word(4, 1)),
+    ] {
+        let read = read_parts(alloc, &[HEAD, text])?;
+        assert_eq!(rt; place(read), fault);
+    }
+    Ok(())
+}
+
+#[test]
+fn faults_of_a_line(rt: HostRuntime) -> Result<(), Fail> {
+    let alloc = rt.alloc();
+    for (text, fault) in [
+        (b"0 vlan add 4094 x".as_slice(), None),
+        (b"0 vlan add 4095 x", word(5, 3)),
+        (b"1 vlan add 10 web", word(5, 0)),
+        (b"00 vlan add 10 web", word(5, 0)),
+        (b"0 vlan add 10", word(5, 4)),
+        (b"0 vlan add 10 web web", word(5, 5)),
+        (b"0 queue settle", word(5, 2)),
+        (b"0 alone queue port up 1", word(5, 2)),
+        (b"0 port up 1025", word(5, 3)),
+        (b"0 show", word(5, 2)),
+        (b"0", word(5, 1)),
+        (b"#\0", Some(ScriptFault::Byte { line: 5 })),
+        (b"#~", None),
+    ] {
+        let found = fault_of_line(alloc, text)?;
+        assert_eq!(rt; found, fault);
+    }
+    Ok(())
+}
+
+#[test]
+fn faults_of_routes(rt: HostRuntime) -> Result<(), Fail> {
+    let alloc = rt.alloc();
+    for (text, fault) in [
+        (b"0 route set 0 20.0.0.0/8 ebgp via".as_slice(), None),
+        (b"0 route set 0 20.0.0.1/8 ebgp drop", word(5, 4)),
+        (b"0 route set 0 20.0.0.0/8 bgp drop", word(5, 5)),
+        (b"0 route set 0 20.0.0.0/8 ebgp via ;", word(5, 7)),
+        (b"0 route set 0 20.0.0.0/8 ebgp", word(5, 6)),
+        (b"0 client sync 0 ebgp", None),
+        (b"0 client sync 0 ebgp ;", word(5, 5)),
+        (b"0 client sync 0 ebgp 20.0.0.0/8 drop ;", word(5, 8)),
+        (b"0 client sync 0 ebgp 20.0.0.0/8 drop drop", word(5, 7)),
+        (b"0 client sync 0 ebgp 20.0.0.0/8 via x", word(5, 7)),
+    ] {
+        let found = fault_of_line(alloc, text)?;
+        assert_eq!(rt; found, fault);
+    }
+    Ok(())
+}
+
+// Each allocation of this test is refused in turn outside the gate, the test's own among them,
+// which it lets pass: no other answer may come in the place of the script.
+#[test]
+fn refused_memory_is_told_as_such(rt: HostRuntime) -> Result<(), Fail> {
+    let alloc = rt.alloc();
+    let lines =
+        b"base vlan add 10 web\nphase\n0 client sync 0 ebgp 20.0.0.0/8 via 10.0.0.1 ; ::/0 drop\n0 settle\n";
+    let Ok(read) = read_parts(alloc, &[HEAD, lines]) else {
+        return Ok(());
+    };
+    match read {
+        Ok(script) => assert_eq!(rt; script.phases.len(), 1),
+        Err(fault) => assert_eq!(rt; fault, ScriptFault::NoMemory),
+    }
+    Ok(())
 }

@@ -1,121 +1,211 @@
-// The whole script: its first three lines, and its phase.
-ghost use Rattle.std.specs.Prelude.{◌≡◌, ◌<◌, ◌^◌, List, option_map, IfOk, IsErrOf, length};
-ghost use Rattle.script_text.specs.declared.script.Line.{Line as LineOf};
-ghost use Rattle.script_text.specs.declared.script.Script.{Script as Whole};
-ghost use Rattle.script_text.specs.Script.{AreLines, IsPhase, IsScript};
-ghost use Rattle.script_text.specs.Reading.{line_at, caps_at, head_at};
+// The whole script, line by line.
+ghost use Rattle.std.specs.Prelude.{◌≡◌, ◌+◌, length, IfOk, IfErr, MatchResult};
+ghost use Rattle.script_words.specs.Lines.{lines};
+ghost use Rattle.script_text.specs.Draft.{with_entry, draft_entries, finished, IsAt, IsBehind, IsBadLine};
+ghost use Rattle.script_text.specs.Ranges.{IsInRange};
+ghost use Rattle.script_text.specs.Script.{IsScript, IsScriptFault, AreEntries, IsStage};
+ghost use Rattle.script_text.specs.declared.entries.Stage.{Stage as TheStage};
+ghost use Rattle.script_text.specs.declared.entries.Stage.TheVariants.{Opening};
+ghost use Rattle.script_text.specs.declared.fault.ScriptFault.TheVariants.{NoMemory as Refused};
+ghost use Rattle.script_text.specs.declared.whole.Draft.TheVariants as drafts;
+ghost use Rattle.script_text.specs.declared.script.Script.{Script as TheScript};
 
-use crate::acts::read_act;
-use crate::cursor::Cursor;
-use crate::{Line, LineList, Script, ScriptFault};
-use net_types::{Caps, NoMemory};
+use crate::entries::{Entry, Stage, behind, read_entry};
+use crate::{BaseList, LineList, PhaseList, Script, ScriptFault, Start};
+use net_types::NoMemory;
+use script_words::{ReadFault, all_allowed, count, is_skipped, next_line};
 use std::alloc::Global;
-use switch_model::Update;
 
-/// The number of the phase's first line, which stands behind the three of the head and `phase`.
-const FIRST_LINE: u64 = 5;
-
-/// The most rows of the l2, host and route table.
-const MOST_ROWS: u64 = 65_536;
-
-/// The most rows of the group table.
-const MOST_GROUPS: u64 = 4_096;
-
-/// The highest limit.
-const MOST_UPDATES: u64 = 1_000_000;
-
-/// Reads a script in one pass. Only its names and its list of lines take memory.
-pub fn read_script(alloc: Global, bytes: &[u8]) -> Result<Script, ScriptFault>
-    ensures script { IfOk result (λ script. IsScript bytes.now script) }
-    // and no other: the bytes spell one script
-    ensures only { IfOk result (λ script. (other : Whole) → IsScript bytes.now other → other ≡ script) }
-    ensures refused { IsErrOf result ScriptFault.Refused → (script : Whole) → IsScript bytes.now script → ⊥ }
-{
-    let mut cursor = Cursor::new(bytes);
-    let Some((caps, limit)) = read_head(&mut cursor) else {
-        return Err(ScriptFault::Refused);
-    };
-    let lines = read_phase(alloc, &mut cursor)?;
-    Ok(Script { caps, limit, lines })
+/// What was read so far.
+#[derive(Drop)]
+pub enum Draft {
+    Nothing,
+    Start(Start),
+    Limit(Start, u64),
+    /// No phase has begun.
+    Base(Script),
+    /// The lines of the phase that has begun aren't in the script yet.
+    Phase(Script, LineList),
 }
 
-/// The first three lines: the capacities and the limit.
-#[tactic(auto, unfolding(crate::specs::Reading::head_at))]
-fn read_head(cursor: &mut Cursor) -> Option<(Caps, u64)>
-    ensures { option_map (λ head. (head, cursor.new)) result ≡ head_at cursor.old }
+/// The draft with what one line more says.
+fn with_entry(alloc: Global, draft: Draft, entry: Entry) -> Result<Draft, NoMemory>
+    ensures { IfOk result (λ new. new ≡ with_entry draft entry) }
 {
-    cursor.text(b"start cold ")?;
-    let caps = read_caps(cursor)?;
-    cursor.text(b"limit ")?;
-    let limit = cursor.number(1, MOST_UPDATES, b'\n')?;
-    cursor.text(b"callers 1\n")?;
-    Some((caps, limit))
-}
-
-/// The capacities, and the line's end.
-#[tactic(auto, unfolding(crate::specs::Reading::caps_at))]
-fn read_caps(cursor: &mut Cursor) -> Option<Caps>
-    ensures { option_map (λ caps. (caps, cursor.new)) result ≡ caps_at cursor.old }
-{
-    let l2 = cursor.number(0, MOST_ROWS, b' ')? as u32;
-    let host = cursor.number(0, MOST_ROWS, b' ')? as u32;
-    let group = cursor.number(0, MOST_GROUPS, b' ')? as u32;
-    let route = cursor.number(0, MOST_ROWS, b'\n')? as u32;
-    Some(Caps {
-        l2,
-        host,
-        group,
-        route,
-    })
-}
-
-/// The lines of the phase: none if it is left out.
-fn read_phase(alloc: Global, cursor: &mut Cursor) -> Result<LineList, ScriptFault>
-    requires room { length cursor.old < 2 ^ 63 }
-    ensures lines { IfOk result (λ lines. IsPhase lines cursor.old) }
-    ensures refused { IsErrOf result ScriptFault.Refused → (lines : List LineOf) → IsPhase lines cursor.old → ⊥ }
-{
-    if cursor.is_at_end() {
-        return Ok(LineList::new(alloc));
+    match draft {
+        Draft::Nothing => Ok(with_start(entry)),
+        Draft::Start(start) => Ok(with_limit(start, entry)),
+        Draft::Limit(start, limit) => Ok(with_callers(alloc, start, limit, entry)),
+        Draft::Base(script) => with_base(alloc, script, entry),
+        Draft::Phase(script, lines) => with_line(alloc, script, lines, entry),
     }
-    if cursor.text(b"phase\n").is_none() {
-        return Err(ScriptFault::Refused);
-    }
-    read_lines(alloc, cursor)
 }
 
-/// Lines up to the end of the script. The first of them is the fifth of the script.
-fn read_lines(alloc: Global, cursor: &mut Cursor) -> Result<LineList, ScriptFault>
-    requires room { length cursor.old < 2 ^ 63 }
-    ensures lines { IfOk result (λ lines. AreLines 5 lines cursor.old) }
-    ensures refused { IsErrOf result ScriptFault.Refused → (lines : List LineOf) → AreLines 5 lines cursor.old → ⊥ }
+fn with_start(entry: Entry) -> Draft
+    ensures { result ≡ with_entry drafts.Nothing entry }
 {
-    let mut lines = LineList::new(alloc);
-    let mut number = FIRST_LINE;
-    while !cursor.is_at_end() {
-        let Some(line) = read_line(alloc, cursor, number)? else {
-            return Err(ScriptFault::Refused);
-        };
-        lines.push(line)?;
+    match entry {
+        Entry::Starts(start) => Draft::Start(start),
+        _ => Draft::Nothing,
+    }
+}
+
+fn with_limit(start: Start, entry: Entry) -> Draft
+    ensures { result ≡ with_entry (drafts.Start start) entry }
+{
+    match entry {
+        Entry::Limits(limit) => Draft::Limit(start, limit),
+        _ => Draft::Start(start),
+    }
+}
+
+fn with_callers(alloc: Global, start: Start, limit: u64, entry: Entry) -> Draft
+    ensures { result ≡ with_entry (drafts.Limit start limit) entry }
+{
+    match entry {
+        Entry::Calls(callers) => Draft::Base(Script {
+            start,
+            limit,
+            callers,
+            base: BaseList::new(alloc),
+            phases: PhaseList::new(alloc),
+        }),
+        _ => Draft::Limit(start, limit),
+    }
+}
+
+fn with_base(alloc: Global, mut script: Script, entry: Entry) -> Result<Draft, NoMemory>
+    ensures { IfOk result (λ new. new ≡ with_entry (drafts.Base script) entry) }
+{
+    match entry {
+        Entry::Bases(line, act) => {
+            script.base.push((line, act))?;
+            Ok(Draft::Base(script))
+        }
+        Entry::NewPhase => Ok(Draft::Phase(script, LineList::new(alloc))),
+        _ => Ok(Draft::Base(script)),
+    }
+}
+
+fn with_line(
+    alloc: Global,
+    mut script: Script,
+    mut lines: LineList,
+    entry: Entry,
+) -> Result<Draft, NoMemory>
+    ensures { IfOk result (λ new. new ≡ with_entry (drafts.Phase script lines) entry) }
+{
+    match entry {
+        Entry::NewPhase => {
+            script.phases.push(lines)?;
+            Ok(Draft::Phase(script, LineList::new(alloc)))
+        }
+        Entry::Does(line) => {
+            lines.push(line)?;
+            Ok(Draft::Phase(script, lines))
+        }
+        _ => Ok(Draft::Phase(script, lines)),
+    }
+}
+
+/// The script, once its callers are known.
+fn finish(draft: Draft) -> Result<Option<Script>, NoMemory>
+    ensures { IfOk result (λ found. found ≡ finished draft) }
+{
+    match draft {
+        Draft::Base(script) => Ok(Some(script)),
+        Draft::Phase(mut script, lines) => {
+            script.phases.push(lines)?;
+            Ok(Some(script))
+        }
+        _ => Ok(None),
+    }
+}
+
+/// One line more: the draft and the stage behind it.
+fn read_next(
+    alloc: Global,
+    draft: Draft,
+    stage: Stage,
+    number: u64,
+    line: &[u8],
+) -> Result<(Draft, Stage), ScriptFault>
+    requires { IsStage stage }
+    ensures behind { IfOk result (λ x. IsBehind draft stage number line.now x.0 x.1) }
+    ensures fault { IfErr result (λ fault. IsBadLine stage number line.now fault) }
+{
+    if !all_allowed(line) {
+        return Err(ScriptFault::Byte { line: number });
+    }
+    if is_skipped(line) {
+        return Ok((draft, stage));
+    }
+    match read_entry(alloc, stage, number, line) {
+        Ok(entry) => {
+            let place = behind(stage, &entry);
+            let next = with_entry(alloc, draft, entry)?;
+            Ok((next, place))
+        }
+        Err(ReadFault::Memory) => Err(ScriptFault::NoMemory),
+        Err(ReadFault::Left(left)) => Err(ScriptFault::Word {
+            line: number,
+            word: (count(line) - left) as u64,
+        }),
+    }
+}
+
+/// Reads all lines, skipped ones too: the draft, and the number of the line behind the last.
+#[tactic(auto, using(crate::proofs::ScriptLaws::begun))]
+fn read_lines(alloc: Global, bytes: &[u8]) -> Result<(Draft, u64), ScriptFault>
+    ensures found { IfOk result (λ x. (stage : TheStage) × AreEntries Opening 1 (lines bytes.now) (draft_entries x.0) stage × IsAt x.0 stage × (x.1 ≡ length (lines bytes.now) + 1)) }
+    ensures fault { IfErr result (λ fault. IsScriptFault (lines bytes.now) fault) }
+{
+    let mut draft = Draft::Nothing;
+    let mut stage = Stage::Opening;
+    let mut rest = bytes;
+    let mut number = 1;
+    while let Some((line, more)) = next_line(rest) {
+        match read_next(alloc, draft, stage, number, line) {
+            Ok((next, place)) => {
+                draft = next;
+                stage = place;
+            }
+            Err(fault) => return Err(fault),
+        }
+        rest = more;
         number += 1;
     }
-    Ok(lines)
+    Ok((draft, number))
 }
 
-/// The line of that number.
-#[tactic(auto, unfolding(crate::specs::Reading::line_at))]
-fn read_line(alloc: Global, cursor: &mut Cursor, number: u64) -> Result<Option<Line>, NoMemory>
-    ensures { IfOk result (λ found. option_map (λ line. (line, cursor.new)) found ≡ line_at number cursor.old) }
+/// The script of all lines.
+fn read_whole(alloc: Global, bytes: &[u8]) -> Result<Script, ScriptFault>
+    ensures script { IfOk result (λ script. IsScript bytes.now script) }
+    ensures fault { IfErr result (λ fault. IsScriptFault (lines bytes.now) fault) }
 {
-    if cursor.text(b"0 ").is_none() {
-        return Ok(None);
-    }
-    match read_act(alloc, cursor)? {
-        Some(act) => Ok(Some(Line {
+    let (draft, number) = match read_lines(alloc, bytes) {
+        Ok(read) => read,
+        Err(fault) => return Err(fault),
+    };
+    match finish(draft)? {
+        Some(script) => Ok(script),
+        None => Err(ScriptFault::Word {
             line: number,
-            caller: 0,
-            update: Update { alone: false, act },
-        })),
-        None => Ok(None),
+            word: 0,
+        }),
     }
+}
+
+/// Reads a script, or the place of its first fault, in one pass.
+pub fn read_script(alloc: Global, bytes: &[u8]) -> Result<Script, ScriptFault>
+    // what is read is the script of the bytes
+    ensures script { IfOk result (λ script. IsScript bytes.now script) }
+    // a script is read, unless memory runs out
+    ensures only { (script : TheScript) → IsScript bytes.now script → MatchResult result (λ found. found ≡ script) (λ fault. fault ≡ Refused) }
+    // its numbers are in their ranges
+    ensures ranges { IfOk result (λ script. IsInRange script) }
+    // a fault is that of the first bad line
+    ensures fault { IfErr result (λ fault. IsScriptFault (lines bytes.now) fault) }
+{
+    read_whole(alloc, bytes)
 }

@@ -1,7 +1,7 @@
 use Rattle.std.proofs.Common.{ℕ, List, map}
 use Rattle.std.specs.String.{string_bytes}
 use Rattle.agent_run.specs.Top.{Outside}
-use Rattle.agent_run.proofs.TopLaws.{served_done, served_words, served_misused, served_script, served_read_fault, served_write_fault, served_too_long, served_nothing, served_complete}
+use Rattle.agent_run.proofs.TopLaws.{served_done, served_words, served_misused, served_script, served_full, served_read_fault, served_write_fault, served_too_long, served_nothing, served_complete}
 use Rattle.agent_run.proofs.top.agent_main.Goals as goal
 
 pub returns-clause-done : goal.returns-clause-done
@@ -38,6 +38,13 @@ returns-clause-script g c =
     let old : Outside = record { left = g.S.Source.left c.args.source.now; read_faults = g.S.Source.faults c.args.source.now; written = g.K.Sink.written c.args.sink.now; write_faults = g.K.Sink.faults c.args.sink.now } in
     let new : Outside = record { left = g.S.Source.left c.serve.new.source; read_faults = g.S.Source.faults c.serve.new.source; written = g.K.Sink.written c.serve.new.sink; write_faults = g.K.Sink.faults c.serve.new.sink } in
     served_script words old new c.serve.result c.serve.ensures
+
+pub returns-clause-opening_full : goal.returns-clause-opening_full
+returns-clause-opening_full g c =
+    let words : List (List ℕ) = map string_bytes c.args.words.now.items in
+    let old : Outside = record { left = g.S.Source.left c.args.source.now; read_faults = g.S.Source.faults c.args.source.now; written = g.K.Sink.written c.args.sink.now; write_faults = g.K.Sink.faults c.args.sink.now } in
+    let new : Outside = record { left = g.S.Source.left c.serve.new.source; read_faults = g.S.Source.faults c.serve.new.source; written = g.K.Sink.written c.serve.new.sink; write_faults = g.K.Sink.faults c.serve.new.sink } in
+    served_full words old new c.serve.result c.serve.ensures
 
 pub returns-clause-read_fault : goal.returns-clause-read_fault
 returns-clause-read_fault g c =

@@ -1,0 +1,11 @@
+pub mod Words
+pub mod Lines
+pub mod Grammar
+pub mod Faults
+pub mod Reading
+pub mod LengthLaws
+pub mod NumberLaws
+pub mod Exact
+pub mod Classes
+pub mod Again
+pub mod Rows
