@@ -1,0 +1,21 @@
+use Rattle.std.proofs.Common.{◌∙◌, refl}
+use Rattle.hw_undo_check.proofs.May.{may-two_more}
+use Rattle.hw_undo_check.proofs.Oks.{both_parts, such_parts}
+use Rattle.hw_undo_check.proofs.cases.two_more_routes_case.Goals as goal
+
+pub list_of-requires : goal.list_of-requires
+list_of-requires c =
+    let items = rw (c.in_ok-moved.ensures, c.route_of-second.ensures, c.route_of-third.ensures) at c.in_ok-vec.ensures.items in
+    rw items (refl, (refl, (tt, tt)))
+
+pub returns-clause-case : goal.returns-clause-case
+returns-clause-case c =
+    let items = rw (c.in_ok-moved.ensures, c.route_of-second.ensures, c.route_of-third.ensures) at c.in_ok-vec.ensures.items in
+    let routes = c.in_ok-routes.ensures ∙ items in
+    both_parts c.repaired.result _ _ c.repaired.ensures.tables (rw routes at c.repaired.ensures.changes)
+
+pub returns-clause-may : goal.returns-clause-may
+returns-clause-may c =
+    let items = rw (c.in_ok-moved.ensures, c.route_of-second.ensures, c.route_of-third.ensures) at c.in_ok-vec.ensures.items in
+    let routes = c.in_ok-routes.ensures ∙ items in
+    such_parts c.repaired.result _ _ c.repaired.ensures.tables (rw routes at c.repaired.ensures.changes) may-two_more
