@@ -1,0 +1,6 @@
+use Rattle.std.proofs.Common.{◌≡◌, take, map}
+use Rattle.switch_model.specs.Fib.{hop_to}
+use Rattle.plain_resolver.proofs.resolver.hops_to.Given as goal
+
+abbrev pub invariant-loop-host : goal.invariant-loop-host
+invariant-loop-host l = l.hops ≡ map hop_to (take l.host-index l.hosts)
