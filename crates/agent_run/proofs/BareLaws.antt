@@ -1,5 +1,5 @@
 -- A state without interfaces, neighbours and routes has rows of the l2 table alone.
-use Rattle.std.proofs.Common.{◌≡◌, ℕ, false, nat_lt, List, [], Some, length, refl, arith, inl, inr}
+use Rattle.std.proofs.Common.{◌≡◌, false, nat_lt, List, [], Some, length, refl, arith, inl, inr}
 use Rattle.std.proofs.lemmas.Bool.{cases_Bool, le-ltb}
 use Rattle.net_types.specs.Rows.{Rows}
 use Rattle.net_types.specs.declared.table.Caps.{Caps}

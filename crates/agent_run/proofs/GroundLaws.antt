@@ -1,13 +1,13 @@
 -- What a base leads to has nothing that isn't built.
-use Rattle.std.proofs.Common.{◌≡◌, ℕ, Option, None, Some, List, [], ◌∷◌, subst, sym}
+use Rattle.std.proofs.Common.{◌≡◌, ℕ, Option, None, Some, List, [], ◌∷◌, subst}
 use Rattle.std.specs.List.{AllByRecursion}
 use Rattle.switch_model.specs.declared.act.Act.{Act}
 use Rattle.switch_model.specs.declared.verdict.Reason.{Reason}
-use Rattle.switch_model.specs.PlainState.{PlainState, empty}
+use Rattle.switch_model.specs.PlainState.{PlainState}
 use Rattle.switch_model.specs.Reason.{reason}
 use Rattle.switch_model.specs.Effect.{effect}
 use Rattle.agent_run.specs.declared.base.Ground.{Ground}
-use Rattle.agent_run.specs.declared.base.Ground.TheVariants.{Laid, Bad}
+use Rattle.agent_run.specs.declared.base.Ground.TheVariants.{Laid}
 use Rattle.agent_run.specs.Bare.{IsBare}
 use Rattle.agent_run.specs.Ground.{plain, unless, laid}
 use Rattle.agent_run.specs.Served.{IsServed}

@@ -1,5 +1,5 @@
 -- The rows of a state, added one after another to a chip without rows.
-use Rattle.std.proofs.Common.{◌≡◌, ◌≤◌, ◌<◌, ◌+◌, ◌↔◌, ℕ, suc, zero, Bool, true, false, List, [], ◌∷◌, Option, None, Some, length, take, get_or, refl, sym, ap, subst, ◌∙◌, arith}
+use Rattle.std.proofs.Common.{◌≡◌, ◌<◌, ◌+◌, ◌↔◌, ℕ, suc, zero, true, false, List, [], ◌∷◌, None, Some, length, take, get_or, refl, sym, ap, subst, ◌∙◌, arith}
 use Rattle.std.specs.Prelude.{slice_get}
 use Rattle.std.specs.Ordering.{ordering_reverse}
 use Rattle.std.specs.declared.cmp.Ordering.TheVariants.{Less, Greater}
@@ -9,7 +9,6 @@ use Rattle.keyed.specs.Keyed.{at, put, Ascends, IsBelow, with_values}
 use Rattle.keyed.specs.KeyedLaws.{below_before}
 use Rattle.keyed.specs.ValueLaws.{length-with_values}
 use Rattle.net_types.specs.KeyOrder.{l2_cmp, l2_order}
-use Rattle.net_types.specs.Rows.{Rows}
 use Rattle.net_types.specs.declared.table.Caps.{Caps}
 use Rattle.net_types.specs.declared.table.L2Key.{L2Key}
 use Rattle.net_types.specs.declared.table.L2Row.{L2Row}

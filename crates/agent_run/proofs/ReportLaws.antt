@@ -7,16 +7,14 @@ use Rattle.net_types.specs.declared.table.Table.{Table}
 use Rattle.net_types.specs.declared.table.Tables.{Tables}
 use Rattle.chip_core.specs.Chip.{IsChip, view_of}
 use Rattle.switch_model.specs.PlainState.{PlainState, empty}
-use Rattle.net_types.specs.Capacity.{over, Fits}
+use Rattle.net_types.specs.Capacity.{Fits}
 use Rattle.switch_model.specs.Rows.{rows}
 use Rattle.switch_model.specs.Journal.{strip}
 use Rattle.switch_model.specs.Reached.{Reached}
 use Rattle.report_text.specs.Report.{report_of}
 use Rattle.script_text.specs.declared.script.Script.{Script}
-use Rattle.script_text.specs.declared.script.Start.{Start}
 use Rattle.script_text.specs.declared.script.Start.TheVariants.{Cold}
 use Rattle.script_text.specs.Script.{IsScript}
-use Rattle.agent_run.specs.declared.base.Ground.{Ground}
 use Rattle.agent_run.specs.declared.base.Ground.TheVariants.{Laid}
 use Rattle.agent_run.specs.declared.plan.Plan.{Plan}
 use Rattle.agent_run.specs.declared.refusal.Refusal.{Refusal}
@@ -29,7 +27,7 @@ use Rattle.agent_run.specs.Single.{IsPlain}
 use Rattle.agent_run.specs.Solo.{Course, cold, solo, started}
 use Rattle.agent_run.specs.Told.{Told}
 use Rattle.agent_run.specs.Kept.{Moment, journal_of, course_now, IsKept}
-use Rattle.agent_run.specs.Top.{IsRunReport, Runs, IsRunnable, IsPlanRefused, IsOpeningRefused, OrNoMemory}
+use Rattle.agent_run.specs.Top.{IsRunReport, IsRunnable, IsPlanRefused, IsOpeningRefused, OrNoMemory}
 use Rattle.agent_run.proofs.SoloLaws.{course_kept}
 use Rattle.agent_run.proofs.ToldLaws.{course_told}
 

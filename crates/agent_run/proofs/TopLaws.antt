@@ -12,7 +12,7 @@ use Rattle.agent_run.specs.declared.refusal.Refusal.TheVariants.{Byte, Word, Not
 use Rattle.agent_run.specs.declared.refusal.RunFault.{RunFault}
 use Rattle.agent_run.specs.declared.refusal.RunFault.TheVariants as run
 use Rattle.agent_run.specs.Refusal.{refusal_line, status_of}
-use Rattle.agent_run.specs.Top.{Outside, Served, Answered, Declined, Reported, CutShort, Refused, IsRefused, IsRefusedAs, IsRunnable, OrNoMemory, WritesNothing, IsRunCommand, ReadsAll, IsComplete, longest_script}
+use Rattle.agent_run.specs.Top.{Outside, Served, Answered, Declined, Reported, CutShort, Refused, IsRefused, IsRunnable, OrNoMemory, WritesNothing, IsRunCommand, ReadsAll, IsComplete, longest_script}
 
 pub one_word : {S : Type 0} (bytes : S → List ℕ) (xs : List S) (x : S) (text word : List ℕ) (r : Bool) → length xs ≡ 1 → x ≡ get_or xs 0 x → text ≡ bytes x → r ≡ pointwise eqb text word → Decides r (map bytes xs ≡ word ∷ [])
 one_word bytes [] x text word r one at is test = absurd (omega arith)

@@ -11,6 +11,13 @@ use hw_undo::{UndoLog, commit};
 use std::io;
 use std::time::{CpuClock, Duration};
 
+/// How many l2 rows a commit writes, and in how many rounds: each adds them and removes them.
+#[derive(Clone, Copy)]
+struct Commits {
+    rows: u32,
+    rounds: u32,
+}
+
 /// Commits that were made: how many were kept, and the time of all.
 #[derive(Clone, Copy)]
 struct Total {
@@ -18,9 +25,15 @@ struct Total {
     used: Duration,
 }
 
-/// Prints what commits of one and of 1,000 l2 rows take, kept and undone, on tables of so many rows
-/// and on those of 1,024 l2 rows beside so many routes, which no commit touches: one that is undone
-/// also adds a route, for which there is no room.
+/// The same commits, undone and kept.
+#[derive(Clone, Copy)]
+struct Totals {
+    undone: Total,
+    kept: Total,
+}
+
+/// Prints what commits of one and of 1,000 l2 rows take, undone and kept, on tables of so many rows
+/// and on those of 1,024 l2 rows beside so many routes, which no commit touches.
 pub fn run<R: CpuClock + Print + AllocGlobal>(
     rt: &R,
     count: u32,
@@ -49,35 +62,16 @@ fn commits_on<R: CpuClock + Print + AllocGlobal>(
     size: Size,
     is_timed: bool,
 ) -> io::Result<()> {
-    for (rows, times) in [(1, 1000), (1000, 20)] {
-        let kept = Commits {
-            rows,
-            times,
-            route: None,
-        };
-        report(rt, size, &kept, is_timed)?;
-        let undone = Commits {
-            rows,
-            times,
-            route: route_key(size.route),
-        };
-        report(rt, size, &undone, is_timed)?;
+    for (rows, rounds) in [(1, 500), (1000, 10)] {
+        report(rt, size, Commits { rows, rounds }, is_timed)?;
     }
     Ok(())
-}
-
-/// How many l2 rows a commit writes, and how often; with a route, that is added too.
-#[derive(Drop)]
-struct Commits {
-    rows: u32,
-    times: u32,
-    route: Option<RouteKey>,
 }
 
 fn report<R: CpuClock + Print + AllocGlobal>(
     rt: &R,
     size: Size,
-    commits: &Commits,
+    commits: Commits,
     is_timed: bool,
 ) -> io::Result<()> {
     let caps = Caps {
@@ -90,50 +84,92 @@ fn report<R: CpuClock + Print + AllocGlobal>(
     let Ok(mut chip) = SimChip::from_rows(rt.alloc(), caps, tables) else {
         return println!(rt; "no chip of {} l2 rows and {} routes", size.l2, size.route);
     };
-    let total = run_all(rt, &mut chip, commits)?;
-    print_total(rt, size, commits, total, is_timed)
+    let (added, removed) = run_all(rt, &mut chip, commits, size.route)?;
+    println!(rt; "{} l2 rows, {} routes", size.l2, size.route)?;
+    print_totals(rt, "added", commits, added, is_timed)?;
+    print_totals(rt, "removed", commits, removed, is_timed)
 }
 
-fn print_total<R: Print + AllocGlobal>(
+fn print_totals<R: Print + AllocGlobal>(
     rt: &R,
-    size: Size,
-    commits: &Commits,
-    total: Total,
+    what: &str,
+    commits: Commits,
+    totals: Totals,
     is_timed: bool,
 ) -> io::Result<()> {
-    let Size { l2, route } = size;
-    let (rows, times) = (commits.rows, commits.times);
-    let kept = total.kept;
+    let Commits { rows, rounds } = commits;
+    let undone = rounds.saturating_sub(totals.undone.kept);
+    let kept = totals.kept.kept;
     if !is_timed {
-        return println!(rt; "{l2} l2 rows, {route} routes, {rows} written: {kept} of {times} kept");
+        return println!(rt; "{rows} {what}: {undone} of {rounds} undone, {kept} of {rounds} kept");
     }
-    let each = total.used.as_nanos() / (u128::from(rows) * u128::from(times)).max(1);
-    println!(rt;
-        "{l2} l2 rows, {route} routes, {rows} written: {kept} of {times} kept, {each} ns a row"
-    )
+    let undone_each = nanos_a_row(totals.undone, commits);
+    let kept_each = nanos_a_row(totals.kept, commits);
+    println!(rt; "{rows} {what}: {undone_each} ns a row undone, {kept_each} ns a row kept")
 }
 
-/// So many commits, one after another. The rows of one are taken away by the next.
+fn nanos_a_row(total: Total, commits: Commits) -> u128 {
+    let written = u128::from(commits.rows) * u128::from(commits.rounds);
+    total.used.as_nanos() / written.max(1)
+}
+
+/// So many rounds: commits that add rows, and then those that remove the same rows.
 fn run_all<R: CpuClock + AllocGlobal, C: HwSwitch>(
     rt: &R,
     chip: &mut C,
-    commits: &Commits,
-) -> io::Result<Total>
+    commits: Commits,
+    routes: u32,
+) -> io::Result<(Totals, Totals)>
     requires { IsPlain (view_of (C.raw chip.old)) }
 {
     let mut log = UndoLog::new(rt.alloc());
-    let mut total = Total {
-        kept: 0,
-        used: Duration::ZERO,
-    };
-    for _ in 0..commits.times {
-        let (is_kept, used) = one_commit(rt, chip, &mut log, commits)?;
-        total = total.with(is_kept, used);
+    let mut added = Totals::none();
+    let mut removed = Totals::none();
+    for _ in 0..commits.rounds {
+        added = two_commits(rt, chip, &mut log, commits.rows, routes, added)?;
+        removed = two_commits(rt, chip, &mut log, commits.rows, routes, removed)?;
     }
-    Ok(total)
+    Ok((added, removed))
+}
+
+/// A commit that is undone, since it also adds the route after so many, for which there is no room,
+/// and then the same without the route, which is kept.
+fn two_commits<R: CpuClock + AllocGlobal, C: HwSwitch>(
+    rt: &R,
+    chip: &mut C,
+    log: &mut UndoLog,
+    rows: u32,
+    routes: u32,
+    totals: Totals,
+) -> io::Result<Totals>
+    requires { IsPlain (view_of (C.raw chip.old)) }
+    ensures { OnOk result (IsPlain (view_of (C.raw chip.new))) }
+{
+    let undone = one_commit(rt, chip, log, rows, route_key(routes))?;
+    let kept = one_commit(rt, chip, log, rows, None)?;
+    Ok(Totals {
+        undone: totals.undone.with(undone.0, undone.1),
+        kept: totals.kept.with(kept.0, kept.1),
+    })
+}
+
+impl Totals {
+    fn none() -> Totals {
+        Totals {
+            undone: Total::none(),
+            kept: Total::none(),
+        }
+    }
 }
 
 impl Total {
+    fn none() -> Total {
+        Total {
+            kept: 0,
+            used: Duration::ZERO,
+        }
+    }
+
     fn with(self, is_kept: bool, used: Duration) -> Total {
         Total {
             kept: self.kept.saturating_add(u32::from(is_kept)),
@@ -146,12 +182,13 @@ fn one_commit<R: CpuClock + AllocGlobal, C: HwSwitch>(
     rt: &R,
     chip: &mut C,
     log: &mut UndoLog,
-    commits: &Commits,
+    rows: u32,
+    route: Option<RouteKey>,
 ) -> io::Result<(bool, Duration)>
     requires { IsPlain (view_of (C.raw chip.old)) }
     ensures { OnOk result (IsPlain (view_of (C.raw chip.new))) }
 {
-    let changes = changes_of(rt.alloc(), chip, commits.rows, commits.route)?;
+    let changes = changes_of(rt.alloc(), chip, rows, route)?;
     log.reserve(changes.writes())?;
     let start = rt.thread_cpu_time()?;
     let is_kept = commit(chip, changes, log).is_ok();

@@ -1,5 +1,5 @@
 -- What is printed is one word.
-use Rattle.std.proofs.Common.{◌≡◌, ◌≢◌, ◌<◌, ◌≤◌, ◌+◌, ◌^◌, ◌/◌, ◌%◌, ℕ, List, [], ◌∷◌, ◌++◌, length, Option, Some, None, refl, sym, ap, subst, ◌∙◌, inl, inr, arith, length-append}
+use Rattle.std.proofs.Common.{◌≡◌, ◌≢◌, ◌<◌, ◌≤◌, ◌+◌, ◌^◌, ◌/◌, ◌%◌, ℕ, List, [], ◌∷◌, ◌++◌, length, Option, Some, None, refl, sym, ap, subst, ◌∙◌, inl, arith}
 use Rattle.std.specs.List.{AllByRecursion}
 use Rattle.std.specs.Fmt.{decimal}
 use Rattle.std.specs.Prelude.{option_map, option_and_then, ◌==◌, if◌then◌else◌}
@@ -11,7 +11,7 @@ use Rattle.net_types.specs.Address.{ip_width}
 use Rattle.net_types.specs.Cidr.{Cidr}
 use Rattle.net_types.specs.Prefix.{IsAddr as IsAddrValue, IsPrefix as IsPrefixValue, host_bits}
 use Rattle.ip_text.specs.Numerals.{Joined, IsHex, IsNumber, in_base}
-use Rattle.ip_text.specs.AddressText.{IsIp, IsAddr, IsPrefix, IsMac, IsHopBy}
+use Rattle.ip_text.specs.AddressText.{IsHopBy}
 use Rattle.ip_text.specs.Printed.{ip_text, addr_text, prefix_text, mac_text, intf_text, hop_text}
 use Rattle.ip_text.specs.RoundTrip.{IsIpValue, IsIntfIfAny, IsHopValue, IsWordOf}
 use Rattle.ip_text.specs.Values.{ip_of, prefix_of, addr_of, mac_of, hop_of, number_of, quad_of, row_of, all_of, words_of, ipv6_of, ipv6_by, gap_of, groups_of, last_of, group_of, hex_of, eight_of, cut_at, hop_by, hop_to}

@@ -1,5 +1,5 @@
 -- What trees are made of along the path of a key.
-use Rattle.std.proofs.Common.{◌≡◌, ◌≢◌, ℕ, ◌+◌, ◌-◌, ◌^◌, ◌<◌, ◌≤◌, ◌⊎◌, Bool, true, false, eqb, ltb, List, [], ◌∷◌, ◌++◌, Option, None, Some, IsSome, refl, sym, ap, ◌∙◌, subst, append-nil, arith, inl, inr}
+use Rattle.std.proofs.Common.{◌≡◌, ℕ, ◌+◌, ◌-◌, ◌^◌, ◌<◌, ◌≤◌, Bool, true, false, eqb, ltb, List, [], ◌∷◌, ◌++◌, Option, None, Some, IsSome, refl, sym, ap, ◌∙◌, subst, append-nil, arith, inl, inr}
 use Rattle.std.specs.List.{All, Contains}
 use Rattle.std.specs.Ordering.{nat_cmp}
 use Rattle.std.proofs.lemmas.List.Elements.{All-weaker, Contains-append_left, Contains-append_right, Contains-append_cases}
@@ -12,7 +12,7 @@ use Rattle.node_map.specs.Sound.{IsPlace, IsSound, IsBranch, IsPlaced, IsRemoved
 use Rattle.node_map.specs.TreeNode.{Entries, TreeNode, TreeView, tree_of, leaf_view, branch_view}
 use Rattle.node_map.proofs.Order.{cmp-same, at_key, put_first, put_front, put_back, without_front, without_back}
 use Rattle.node_map.proofs.Places.{before_true, before_false, covers_true, here_covers, leaf_covers}
-use Rattle.node_map.proofs.Trees.{contains_later, contains_cases, contains_none, two_halves, encloses_same, encloses_trans, leaf_sound, branch_sound, left_half, right_half, left_place, right_place, left_below, right_from, right_above, left_before, on_left, on_right, at_left, at_right}
+use Rattle.node_map.proofs.Trees.{contains_later, contains_cases, contains_none, two_halves, encloses_same, encloses_trans, leaf_sound, branch_sound, left_place, right_place, right_above, left_before, on_left, on_right, at_left, at_right}
 
 fork_place : {at wide key top low split width : ℕ} → top ≤ 192 → IsFork at wide key top low split width → IsPlace low width
 fork_place {at} {wide} {key} {top} {low} {split} {width} top_fits fork = let narrower = fork.within.narrower in record { aligned = fork.aligned; fits = omega arith }

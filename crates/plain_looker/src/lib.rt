@@ -1,7 +1,6 @@
 //! A state of the switch as lists that are scanned: slow and simple, a yardstick for faster states.
 #![tactic(auto)]
 
-mod hosts;
 mod looker;
 mod part;
 mod scan;

@@ -4,6 +4,7 @@ use net_types::{
     Addr, Client, HostAct, HostKey, Intf, Ip, L2Key, Mac, Port, Prefix, RouteKey, Vlan, VlanName,
     Vrf,
 };
+use row_rules::{host_row, live};
 use std::alloc::Global;
 use std::process::Abort;
 use std::test::Fail;
@@ -300,10 +301,10 @@ fn is_live(rt: &impl Abort, state: &PlainLooker, n: &Names, up: bool) {
         port: n.port,
         up,
     };
-    assert!(rt; state.live(&host(n)) == up);
-    assert!(rt; state.host_row(&host(n)).map(|row| row.act) == Some(act));
+    assert!(rt; live(state, n.intf, n.host) == up);
+    assert!(rt; host_row(state, &host(n)).map(|row| row.act) == Some(act));
 }
 
 fn has_no_row(rt: &impl Abort, state: &PlainLooker, n: &Names) {
-    assert!(rt; state.host_row(&host(n)).is_none());
+    assert!(rt; host_row(state, &host(n)).is_none());
 }

@@ -1,16 +1,15 @@
 -- The acts: what is read is an act, the words of an act are read, and a fault is at the first word that no act begins with.
-use Rattle.std.proofs.Common.{◌≡◌, ℕ, List, [], ◌∷◌, ◌++◌, Result, Ok, Err, refl, codes}
-use Rattle.std.specs.Prelude.{map}
+use Rattle.std.proofs.Common.{ℕ, List, [], ◌∷◌, ◌++◌, refl, codes}
 use Rattle.switch_model.specs.declared.act.Act.{Act}
 use Rattle.switch_model.specs.declared.act.Act.TheVariants.{VlanAdd, VlanDel, PortAdd, PortDel, PortVlan, PortUp, PortDown, IntfAdd, IntfDel, AddrAdd, AddrDel, NeighborSet, NeighborPending, NeighborDel, MacSet, MacDel, RouteSet, RouteDel, ClientSync}
 use Rattle.switch_model.specs.declared.via.Via.{Via}
 use Rattle.switch_model.specs.declared.via.Via.TheVariants.{Hops, ToCpu, Discard}
-use Rattle.script_words.specs.Grammar.{Token, key, AreWords, vlan, port, intf, vrf, vlan_name, ip, addr, prefix, mac, hop, client}
-use Rattle.script_words.specs.Exact.{Exact, Partly, exact_ended, exact_choose, exact_map, partly_choose, partly_bad}
+use Rattle.script_words.specs.Grammar.{Token, key, AreWords, vlan, port, intf, addr, mac, client}
+use Rattle.script_words.specs.Exact.{Exact, exact_ended, exact_choose, exact_map, partly_choose, partly_bad}
 use Rattle.script_words.specs.Classes.{vlan_class, port_class, intf_class, vrf_class, vlan_name_class, ip_class, addr_class, prefix_class, mac_class, hop_class, client_class}
 use Rattle.script_words.specs.Again.{Again, exact_one, again_ended, again_one, again_here, again_next, again_map}
 use Rattle.script_words.specs.Rows.{exact_each, each_again}
-use Rattle.script_text.specs.Grammar.{act, action, items}
+use Rattle.script_text.specs.Grammar.{act, action}
 use Rattle.script_text.specs.Reading.{via_at, act_at, vlan_add_at, vlan_del_at, port_add_at, port_del_at, port_vlan_at, port_up_at, port_down_at, intf_add_at, intf_del_at, addr_add_at, addr_del_at, neighbor_set_at, neighbor_pending_at, neighbor_del_at, mac_set_at, mac_del_at, route_set_at, route_del_at, client_sync_at, vlan_at, port_at, intf_at, addr_at, neighbor_at, mac_at, route_at, client_at}
 use Rattle.script_text.proofs.ItemLaws.{exact_items, items_again}
 

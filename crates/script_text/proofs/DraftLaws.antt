@@ -1,5 +1,5 @@
 -- A draft says what the lines so far said, and a script is known by what its lines say.
-use Rattle.std.proofs.Common.{◌≡◌, ℕ, List, [], ◌∷◌, ◌++◌, Option, Some, None, refl, sym, ap, subst, ◌∙◌, append_assoc}
+use Rattle.std.proofs.Common.{◌≡◌, ℕ, List, [], ◌∷◌, ◌++◌, Some, None, refl, sym, ap, subst, ◌∙◌, append_assoc}
 use Rattle.std.proofs.lemmas.List.{append-nil}
 use Rattle.switch_model.specs.declared.act.Act.{Act}
 use Rattle.script_text.specs.declared.script.Start.{Start}
@@ -12,7 +12,7 @@ use Rattle.script_text.specs.declared.entries.Stage.TheVariants.{Opening, Starte
 use Rattle.script_text.specs.declared.whole.Draft.{Draft}
 use Rattle.script_text.specs.declared.whole.Draft.TheVariants as drafts
 use Rattle.script_text.specs.Script.{is_cold, IsEntry, behind, IsHead, base_entries, line_entries, phase_entries, script_entries}
-use Rattle.script_text.specs.Draft.{bare, with_act, with_phase, with_entry, draft_entries, IsAt, finished}
+use Rattle.script_text.specs.Draft.{with_phase, with_entry, draft_entries, IsAt, finished}
 
 base_push : (acts : List (ℕ × Act)) (x : ℕ × Act) → base_entries (acts ++ x ∷ []) ≡ base_entries acts ++ (Bases x.0 x.1 ∷ [])
 base_push [] x = refl

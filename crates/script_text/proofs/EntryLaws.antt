@@ -1,5 +1,5 @@
 -- The lines of a script, by their places.
-use Rattle.std.proofs.Common.{◌≡◌, ◌≤◌, ◌<◌, ◌-◌, ◌+◌, ◌^◌, ℕ, suc, List, [], ◌∷◌, length, Bool, true, false, cond, Result, Ok, Err, ◌⊎◌, inl, inr, refl, sym, ap, subst, ◌∙◌, arith, codes}
+use Rattle.std.proofs.Common.{◌≡◌, ◌≤◌, ◌-◌, ℕ, suc, List, [], ◌∷◌, length, Bool, true, false, Result, Ok, Err, ◌⊎◌, inl, inr, refl, sym, ap, subst, ◌∙◌, arith, codes}
 use Rattle.std.specs.Prelude.{IfOk, IfErr}
 use Rattle.std.specs.Str.{bytes_eq}
 use Rattle.std.proofs.lemmas.Slice.Eq.{bytes_eq-Decides}
@@ -11,7 +11,7 @@ use Rattle.script_words.specs.declared.fault.ReadFault.{ReadFault}
 use Rattle.script_words.specs.declared.fault.ReadFault.TheVariants.{Memory, Left}
 use Rattle.script_words.specs.Grammar.{Token, AreWords}
 use Rattle.script_words.specs.Faults.{IsFault}
-use Rattle.script_words.specs.Reading.{Gives, begins_with, choose, turned, one, ended, bad, number_of}
+use Rattle.script_words.specs.Reading.{Gives, begins_with, choose, turned, one, ended, number_of}
 use Rattle.script_words.specs.Exact.{Exact, Partly, exact_ended, exact_choose, exact_map, partly_choose, partly_bad, fault_is}
 use Rattle.script_words.specs.Classes.{number_class, port_class, vrf_class, name_class, ip_class}
 use Rattle.script_words.specs.Again.{Again, exact_one, again_ended, again_one, again_here, again_next, again_map}
@@ -19,13 +19,12 @@ use Rattle.script_text.specs.declared.script.Start.{Start}
 use Rattle.script_text.specs.declared.script.Start.TheVariants.{Cold, Warm}
 use Rattle.script_text.specs.declared.script.Job.{Job}
 use Rattle.script_text.specs.declared.script.Job.TheVariants.{Submit, Settle, Pump, Peek, Tables, Show}
-use Rattle.script_text.specs.declared.script.Line.{Line}
 use Rattle.script_text.specs.declared.entries.Entry.{Entry}
 use Rattle.script_text.specs.declared.entries.Entry.TheVariants.{Starts, Limits, Calls, Bases, NewPhase, Does}
 use Rattle.script_text.specs.declared.entries.Stage.{Stage}
 use Rattle.script_text.specs.declared.entries.Stage.TheVariants.{Opening, Started, Limited, Called, InPhase}
 use Rattle.script_text.specs.Grammar.{act, marked, update, query, job, line, start, limit, callers, base, phase}
-use Rattle.script_text.specs.Script.{IsStage, IsEntry, IsAllowed, behind}
+use Rattle.script_text.specs.Script.{IsStage, IsEntry, IsAllowed}
 use Rattle.script_text.specs.Reading.{act_at, update_of, update_at, query_at, job_at, line_of, line_at, caps_at, start_at, limit_at, callers_at, phase_or, base_at, entry_at}
 use Rattle.script_text.proofs.ActLaws.{exact_act, act_again}
 

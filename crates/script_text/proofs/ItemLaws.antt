@@ -10,7 +10,7 @@ use Rattle.net_types.specs.declared.ip.Ip.TheVariants.{V4, V6}
 use Rattle.net_types.specs.declared.hop.Hop.{Hop}
 use Rattle.net_types.specs.Cidr.{Cidr}
 use Rattle.ip_text.specs.Numerals.{in_base}
-use Rattle.ip_text.specs.Values.{ip_of, ipv6_of, ipv6_by, gap_of, groups_of, words_of, all_of, row_of, last_of, group_of, hex_of, quad_of, eight_of, prefix_of, cut_at, cidr_of, hop_to, hop_by, hop_of, number_of}
+use Rattle.ip_text.specs.Values.{ip_of, ipv6_of, ipv6_by, gap_of, groups_of, words_of, all_of, row_of, last_of, group_of, hex_of, quad_of, eight_of, prefix_of, cut_at, hop_to, hop_by, hop_of, number_of}
 use Rattle.switch_model.specs.declared.via.Via.{Via}
 use Rattle.switch_model.specs.declared.via.Via.TheVariants.{Hops, ToCpu, Discard}
 use Rattle.script_words.specs.Grammar.{hop, AreWords}

@@ -1,5 +1,5 @@
 -- What is printed of an update is read as that update.
-use Rattle.std.proofs.Common.{◌≡◌, ◌<◌, ◌≤◌, ◌^◌, ℕ, List, [], ◌∷◌, ◌++◌, length, Bool, true, false, Option, Some, Result, Ok, refl, sym, ap, subst, ◌∙◌, arith, codes, append_assoc}
+use Rattle.std.proofs.Common.{◌≡◌, ◌<◌, ◌≤◌, ◌^◌, ℕ, List, [], ◌∷◌, ◌++◌, Bool, true, false, Option, Result, Ok, refl, sym, subst, ◌∙◌, arith, codes, append_assoc}
 use Rattle.std.specs.List.{AllByRecursion}
 use Rattle.std.specs.Prelude.{map}
 use Rattle.std.specs.Fmt.{decimal}
@@ -20,7 +20,7 @@ use Rattle.switch_model.specs.declared.act.Update.{Update}
 use Rattle.switch_model.specs.declared.via.Via.{Via}
 use Rattle.switch_model.specs.declared.via.Via.TheVariants.{Hops, ToCpu, Discard}
 use Rattle.script_words.specs.Words.{words}
-use Rattle.script_words.specs.Grammar.{Token, key, number, vlan, port, intf, vrf, vlan_name, ip, addr, prefix, mac, hop, client, client_of, Spells, AreWords}
+use Rattle.script_words.specs.Grammar.{Token, key, number, vlan, port, intf, vrf, vlan_name, ip, addr, prefix, mac, hop, client, client_of, Spells}
 use Rattle.script_text.specs.Grammar.{action, item, more_items, items, act, marked, update}
 use Rattle.script_text.specs.Reading.{update_at}
 use Rattle.script_text.specs.ReadBack.{IsReadAs}

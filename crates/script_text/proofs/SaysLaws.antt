@@ -1,14 +1,14 @@
 -- The words of a text that is printed with single spaces.
-use Rattle.std.proofs.Common.{◌≡◌, ◌≢◌, ◌<◌, ◌≤◌, ◌^◌, ℕ, suc, List, [], ◌∷◌, ◌++◌, length, Bool, true, false, cond, refl, sym, ap, subst, ◌∙◌, arith, codes}
+use Rattle.std.proofs.Common.{◌≡◌, ◌≢◌, ◌<◌, ◌≤◌, ◌^◌, ℕ, List, [], ◌∷◌, ◌++◌, length, Bool, true, false, cond, refl, sym, ap, subst, ◌∙◌, arith}
 use Rattle.std.specs.List.{AllByRecursion}
-use Rattle.std.specs.Prelude.{◌==◌, ◌&&◌, not, nat_le, if◌then◌else◌}
+use Rattle.std.specs.Prelude.{◌==◌, ◌&&◌, not, if◌then◌else◌}
 use Rattle.std.specs.Str.{all_ascii_digits}
 use Rattle.std.specs.Fmt.{decimal}
 use Rattle.std.proofs.lemmas.Bool.{and_parts, ne_eqb, leb-true}
 use Rattle.std.proofs.lemmas.Fmt.{decimal_nonempty}
 use Rattle.net_types.specs.Names.{is_vlan_name, is_vlan_name_byte, all_vlan_name_bytes}
 use Rattle.script_words.specs.Words.{words, goes_on, onto_first}
-use Rattle.script_words.specs.Grammar.{Token, number, vlan_name, Spells, AreWords, IsBetween}
+use Rattle.script_words.specs.Grammar.{Token, Spells, AreWords}
 use Rattle.script_words.specs.NumberLaws.{decimal_digits}
 
 -- one word: it isn't empty and has no space

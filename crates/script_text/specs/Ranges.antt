@@ -1,16 +1,15 @@
 -- The numbers of a script are in their ranges.
-use Rattle.std.proofs.Common.{◌≡◌, ◌≤◌, ◌<◌, ◌+◌, ◌-◌, ℕ, List, [], ◌∷◌, ◌++◌, inl, inr, refl, sym, ap, subst, ◌∙◌, arith}
+use Rattle.std.proofs.Common.{◌≡◌, ◌≤◌, ◌<◌, ◌+◌, ◌-◌, ℕ, List, [], ◌∷◌, ◌++◌, inl, inr, refl, sym, subst, arith}
 use Rattle.std.specs.List.{AllByRecursion}
 use Rattle.switch_model.specs.declared.act.Act.{Act}
 use Rattle.script_words.specs.Lines.{lines}
-use Rattle.script_text.specs.declared.script.Start.{Start}
 use Rattle.script_text.specs.declared.script.Line.{Line}
 use Rattle.script_text.specs.declared.script.Script.{Script}
 use Rattle.script_text.specs.declared.entries.Entry.{Entry}
 use Rattle.script_text.specs.declared.entries.Entry.TheVariants.{Starts, Limits, Calls, Bases, NewPhase, Does}
 use Rattle.script_text.specs.declared.entries.Stage.{Stage}
 use Rattle.script_text.specs.declared.entries.Stage.TheVariants.{Opening, Started, Limited, Called, InPhase}
-use Rattle.script_text.specs.Script.{is_cold, IsEntry, AreEntries, IsScript, behind, base_entries, line_entries, phase_entries, script_entries}
+use Rattle.script_text.specs.Script.{is_cold, IsEntry, AreEntries, IsScript, behind, base_entries, line_entries, phase_entries}
 
 -- the limit, the number of callers, and each line's caller are in their ranges
 pub record IsInRange (script : Script) : Type 0 where

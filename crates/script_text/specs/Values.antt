@@ -1,7 +1,6 @@
 -- Updates whose numbers, names and addresses are in their ranges, as their types hold them.
-use Rattle.std.specs.Prelude.{◌≡◌, ◌<◌, ◌≤◌, ◌^◌, ℕ, true, List}
+use Rattle.std.specs.Prelude.{◌≡◌, ◌≤◌, ℕ, true}
 use Rattle.std.specs.List.{AllByRecursion}
-use Rattle.net_types.specs.declared.client.Client.{Client}
 use Rattle.net_types.specs.Cidr.{Cidr}
 use Rattle.net_types.specs.Names.{is_vlan_name}
 use Rattle.net_types.specs.Prefix.{IsAddr, IsPrefix}

@@ -1,11 +1,11 @@
 -- What differs between two trees, by their leaves and by what they share.
-use Rattle.std.proofs.Common.{◌≡◌, ◌≢◌, ℕ, ◌+◌, ◌-◌, ◌^◌, ◌<◌, ◌≤◌, ◌⊎◌, Bool, true, false, cond, ltb, eqb, List, [], ◌∷◌, length, Option, None, Some, refl, sym, ap, ◌∙◌, subst, arith, inl, inr}
+use Rattle.std.proofs.Common.{◌≡◌, ◌≢◌, ℕ, ◌+◌, ◌-◌, ◌<◌, ◌≤◌, Bool, true, false, cond, eqb, List, [], ◌∷◌, Option, None, Some, refl, sym, ap, ◌∙◌, subst, arith, inl, inr}
 use Rattle.std.specs.Borrow.{Bor}
 use Rattle.std.specs.List.{All, Contains, IsAmong}
 use Rattle.std.specs.Option.{option_map}
 use Rattle.std.specs.Ordering.{nat_cmp}
 use Rattle.std.proofs.lemmas.Bool.{eqb-true, eqb-false, eq-eqb}
-use Rattle.std.proofs.lemmas.List.Elements.{All-head, All-contains}
+use Rattle.std.proofs.lemmas.List.Elements.{All-contains}
 use Rattle.std.proofs.lemmas.Option.{none-some}
 use Rattle.keyed.specs.Keyed.{at, Ascends}
 use Rattle.keyed.specs.KeyOrders.{nat_order}
@@ -21,7 +21,6 @@ use Rattle.node_map.proofs.Order.{at_key, cmp-same}
 use Rattle.state_delta.specs.Change.{ChangeView, between, change_of}
 use Rattle.state_delta.specs.Delta.{IsPast, IsNext, change_at, delta}
 use Rattle.state_delta.specs.Sides.{Agree, IsReady, side_entries, side_nodes}
-use Rattle.state_delta.specs.declared.change.Kind.{Kind}
 use Rattle.state_delta.specs.declared.change.Kind.TheVariants.{Added, Removed}
 use Rattle.state_delta.proofs.Next.{next_entry, next_removed, next_added, past_apart}
 

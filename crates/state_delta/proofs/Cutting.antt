@@ -1,20 +1,20 @@
 -- Where two trees part.
-use Rattle.std.proofs.Common.{◌≡◌, ◌≢◌, ℕ, ◌+◌, ◌-◌, ◌^◌, ◌<◌, ◌≤◌, ◌⊎◌, ◌↔◌, Bool, true, false, IsTrue, ltb, leb, eqb, List, [], ◌∷◌, ◌++◌, length, length-append, Option, None, Some, refl, sym, ap, ◌∙◌, subst, arith, inl, inr}
+use Rattle.std.proofs.Common.{◌≡◌, ℕ, ◌+◌, ◌-◌, ◌^◌, ◌<◌, ◌≤◌, Bool, true, false, ltb, leb, eqb, ◌++◌, length, length-append, Option, None, Some, refl, sym, ap, ◌∙◌, subst, arith, inl, inr}
 use Rattle.std.specs.Borrow.{Bor}
-use Rattle.std.specs.List.{All, Contains}
+use Rattle.std.specs.List.{Contains}
 use Rattle.std.specs.Ordering.{nat_cmp}
 use Rattle.std.proofs.lemmas.Bool.{ltb-true, ltb-false, leb-true, leb-false, eqb-true, eqb-false}
-use Rattle.std.proofs.lemmas.List.Elements.{All-weaker, Contains-append_left, Contains-append_right}
+use Rattle.std.proofs.lemmas.List.Elements.{Contains-append_left, Contains-append_right}
 use Rattle.std.proofs.lemmas.Nat.{pow_pos}
 use Rattle.keyed.specs.Keyed.{at}
 use Rattle.node_core.specs.Node.{NodeView}
 use Rattle.node_key.specs.Place.{floor, Covers}
 use Rattle.node_key.proofs.Floor.{covered, floor_of, floor_nests, aligned_below}
 use Rattle.node_map.specs.Sound.{IsPlace, IsSound, IsBranch}
-use Rattle.node_map.specs.TreeNode.{TreeNode, TreeView, branch_view, leaf_view}
+use Rattle.node_map.specs.TreeNode.{TreeView, branch_view, leaf_view}
 use Rattle.node_map.proofs.Order.{at_key, at_above}
 use Rattle.node_map.proofs.Trees.{contains_later, contains_none, two_halves, at_left, at_right, left_below, right_above}
-use Rattle.state_delta.specs.Cut.{IsMiddle, IsBelow, IsFrom, IsAside, IsParted, IsBetween, PartsBoth, IsCut}
+use Rattle.state_delta.specs.Cut.{IsMiddle, IsBelow, IsFrom, IsAside, IsParted, PartsBoth, IsCut}
 
 -- the inner place beside the middle of the outer one
 module _ {la wa lb wb split : ℕ} (a : IsPlace la wa) (b : IsPlace lb wb) (narrower : wb ≤ wa) (inside : floor wa lb ≡ la) (positive : 0 < wa) (middle : split ≡ la + 2 ^ (wa - 1)) where

@@ -1,18 +1,17 @@
 -- The list of all changes.
-use Rattle.std.proofs.Common.{◌≡◌, ◌≢◌, ℕ, ◌<◌, ◌≤◌, List, [], ◌∷◌, Option, None, Some, refl, sym, ap, ◌∙◌, subst, arith, ◌⊎◌, inl, inr}
+use Rattle.std.proofs.Common.{◌≡◌, ℕ, ◌<◌, List, [], ◌∷◌, Option, None, Some, refl, sym, ap, ◌∙◌, subst, arith, inl, inr}
 use Rattle.std.specs.List.{All}
-use Rattle.std.specs.Ordering.{nat_cmp, match_ordering}
-use Rattle.std.specs.declared.cmp.Ordering.TheVariants.{Less, Equal, Greater}
+use Rattle.std.specs.Ordering.{nat_cmp}
+use Rattle.std.specs.declared.cmp.Ordering.TheVariants.{Greater}
 use Rattle.std.proofs.lemmas.List.Elements.{All-nil, All-cons, All-head, All-tail, All-weaker}
 use Rattle.std.proofs.lemmas.Option.{none-some}
 use Rattle.keyed.specs.Keyed.{at, put, Ascends}
 use Rattle.keyed.specs.KeyedLaws.{by_order, decide, at-put, at-put_other, ascends-put}
 use Rattle.keyed.specs.KeyOrders.{nat_order, nat_cmp-exact}
-use Rattle.node_core.specs.Node.{NodeView}
 use Rattle.node_map.specs.Steps.{first_of, later}
 use Rattle.node_map.specs.TreeNode.{Entries}
 use Rattle.node_map.proofs.Order.{Above, cmp-same, at_above, above_all, below_first, lt_from_cmp}
-use Rattle.state_delta.specs.Change.{ChangeView, change_of}
+use Rattle.state_delta.specs.Change.{ChangeView}
 use Rattle.state_delta.specs.Delta.{IsDelta, IsNext, change_at, joined, with_some, given, delta}
 use Rattle.state_delta.proofs.Next.{next_same, next_unique, next_entry}
 

@@ -4,7 +4,7 @@ use Rattle.std.specs.Option.{option_map}
 use Rattle.std.specs.Ordering.{nat_cmp}
 use Rattle.std.proofs.lemmas.Bool.{ltb-true, ltb-false}
 use Rattle.std.proofs.lemmas.Option.{none-some}
-use Rattle.keyed.specs.Keyed.{at, Ascends}
+use Rattle.keyed.specs.Keyed.{at}
 use Rattle.node_core.specs.Node.{NodeView}
 use Rattle.node_map.specs.Steps.{first_of, later, later_than}
 use Rattle.node_map.specs.TreeNode.{Entries}

@@ -2,7 +2,6 @@
 use Rattle.std.specs.Prelude.{◌≡◌, ℕ, ◌<◌, List, [], ◌∷◌, Option, None, Some}
 use Rattle.std.specs.Ordering.{nat_cmp}
 use Rattle.keyed.specs.Keyed.{at, put, Ascends}
-use Rattle.node_core.specs.Node.{NodeView}
 use Rattle.node_map.specs.TreeNode.{Entries}
 use Rattle.state_delta.specs.Change.{ChangeView, change_of}
 

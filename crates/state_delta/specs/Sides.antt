@@ -1,5 +1,5 @@
 -- A tree, or none, as a list of entries and a list of nodes; and trees that agree where they meet.
-use Rattle.std.specs.Prelude.{◌≡◌, ℕ, List, [], Contains, Option, None, Some}
+use Rattle.std.specs.Prelude.{◌≡◌, List, [], Contains, Option, None, Some}
 use Rattle.std.specs.Borrow.{Bor}
 use Rattle.std.specs.Ordering.{nat_cmp}
 use Rattle.keyed.specs.Keyed.{Ascends}

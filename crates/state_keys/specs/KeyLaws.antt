@@ -1,5 +1,5 @@
 -- The numbers of the keys of each part are ordered as the keys are, and give their keys back.
-use Rattle.std.proofs.Common.{◌≡◌, ℕ, ◌<◌, ◌≤◌, ◌%◌, ◌^◌, ◌==◌, [], ◌∷◌, if◌then◌else◌, refl, sym, ap, ◌∙◌, subst, arith}
+use Rattle.std.proofs.Common.{◌≡◌, ℕ, ◌<◌, ◌≤◌, ◌%◌, ◌^◌, ◌==◌, [], ◌∷◌, if◌then◌else◌, refl, sym, ap, ◌∙◌, arith}
 use Rattle.std.specs.Ordering.{nat_cmp, ordering_then}
 use Rattle.std.specs.declared.cmp.Ordering.{Ordering}
 use Rattle.std.specs.declared.cmp.Ordering.TheVariants.{Less, Equal, Greater}
@@ -13,7 +13,7 @@ use Rattle.net_types.specs.Address.{ip_number, ip_width}
 use Rattle.net_types.specs.Cidr.{Cidr}
 use Rattle.net_types.specs.Clients.{client_number}
 use Rattle.net_types.specs.KeyOrder.{ip_cmp, l2_cmp, prefix_cmp, route_cmp}
-use Rattle.net_types.specs.Range.{IsIntf, IsMac, IsPort, IsVlan}
+use Rattle.net_types.specs.Range.{IsIntf, IsPort, IsVlan}
 use Rattle.switch_model.specs.declared.key.NeighborKey.{NeighborKey}
 use Rattle.switch_model.specs.declared.key.RibKey.{RibKey}
 use Rattle.switch_model.specs.StateKeys.{client_cmp, neighbor_cmp, rib_cmp}

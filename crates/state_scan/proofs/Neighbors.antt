@@ -1,5 +1,5 @@
 -- Neighbours by ARP and by NDP as one part.
-use Rattle.std.proofs.Common.{◌≡◌, ℕ, Bool, ◌||◌, List, Option, None, Some, refl, sym, ap, ◌∙◌, arith}
+use Rattle.std.proofs.Common.{◌≡◌, Bool, ◌||◌, List, Option, None, Some, refl, ap, ◌∙◌, arith}
 use Rattle.std.specs.List.{All, list_any}
 use Rattle.std.specs.Option.{option_or}
 use Rattle.std.specs.Ordering.{nat_cmp}

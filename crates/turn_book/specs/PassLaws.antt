@@ -1,5 +1,5 @@
 -- Laws of the passes with which a book opens, and of passes that stand in the order of their numbers.
-use Rattle.std.proofs.Common.{◌≡◌, ℕ, zero, suc, ◌+◌, ◌<◌, List, [], ◌∷◌, length, get_or, map, Contains, refl, ap, sym, ◌∙◌, subst, arith}
+use Rattle.std.proofs.Common.{◌≡◌, ℕ, zero, suc, ◌+◌, ◌<◌, List, ◌∷◌, length, get_or, map, Contains, refl, ap, sym, ◌∙◌, subst, arith}
 use Rattle.std.specs.List.{range_with_len}
 use Rattle.turn_book.specs.Passes.{Book, Pass, new_pass, new_passes}
 use Rattle.turn_book.specs.Closing.{HasEachCaller}

@@ -1,5 +1,5 @@
 -- The rule of the book, which holds between any two atomic steps.
-use Rattle.std.specs.Prelude.{◌≡◌, ℕ, ◌+◌, ◌^◌, ◌<◌, ◌≤◌, ◌==◌, Bool, true, false, List, [], ◌∷◌, length, Some, None, if◌then◌else◌}
+use Rattle.std.specs.Prelude.{◌≡◌, ℕ, ◌^◌, ◌<◌, ◌≤◌, ◌==◌, Bool, true, false, List, [], ◌∷◌, length, Some, None, if◌then◌else◌}
 use Rattle.std.specs.Prelude as Prelude
 use mathlib.Core.Option.{Option, some, none}
 use mathlib.Core.List.{IsPrefix}

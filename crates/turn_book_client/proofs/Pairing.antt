@@ -1,5 +1,5 @@
 -- A beginning of a list, and the two items after it.
-use Rattle.std.proofs.Common.{◌≡◌, ℕ, suc, ◌+◌, ◌*◌, ◌<◌, List, [], ◌∷◌, ◌++◌, length, get_or, refl, ap, sym, ◌∙◌, arith}
+use Rattle.std.proofs.Common.{◌≡◌, suc, ◌+◌, ◌*◌, ◌<◌, List, [], ◌∷◌, ◌++◌, length, get_or, refl, arith}
 use mathlib.Core.List.{IsPrefix}
 use Rattle.turn_book.specs.Lists.{strip}
 use Rattle.turn_book_client.specs.declared.values.Pair.{Pair}

@@ -1,4 +1,4 @@
-use Rattle.std.proofs.Common.{length, ap, subst, refl, sym, ◌<◌, ◌∙◌, List}
+use Rattle.std.proofs.Common.{length, ap, subst, refl, ◌<◌, ◌∙◌, List}
 use Rattle.net_types.specs.declared.table.L2Key.{L2Key}
 use Rattle.switch_model.specs.declared.record.MacRec.{MacRec}
 use Rattle.agent_run.proofs.LoadLaws.{load_there, load_new, load_next, load_over}

@@ -1,8 +1,8 @@
-use Rattle.std.proofs.Common.{rules, ◌≡◌, ◌∷◌, ◌++◌, List, refl}
+use Rattle.std.proofs.Common.{rules, ◌≡◌, ◌∷◌, ◌++◌, List}
 use Rattle.std.specs.Vec.Iter.{into_iter_items}
 use Rattle.script_text.specs.declared.script.Line.{Line}
 use Rattle.agent_run.specs.Plan.{IsPlainLine, tasks_of}
-use Rattle.agent_run.proofs.PlanLaws.{all_on, all_back, task_next, tasks_end}
+use Rattle.agent_run.proofs.PlanLaws.{all_on, all_back, task_next}
 use Rattle.agent_run.proofs.plan.add_phase.Goals as goal
 
 pub loop-line-preserved : goal.loop-line-preserved

@@ -1,9 +1,9 @@
-use Rattle.std.proofs.Common.{rules, ◌≡◌, ◌∷◌, List, refl}
+use Rattle.std.proofs.Common.{rules, ◌≡◌, ◌∷◌, List}
 use Rattle.std.specs.List.{AllByRecursion}
 use Rattle.std.specs.Vec.Iter.{into_iter_items}
 use Rattle.script_text.specs.declared.script.Line.{Line}
 use Rattle.agent_run.specs.Plan.{IsPlainLine, all_tasks}
-use Rattle.agent_run.proofs.PlanLaws.{all_on, all_back, tasks_next, tasks_end}
+use Rattle.agent_run.proofs.PlanLaws.{all_on, all_back, tasks_next}
 use Rattle.agent_run.proofs.plan.tasks_of.Goals as goal
 
 pub loop-phase-preserved : goal.loop-phase-preserved

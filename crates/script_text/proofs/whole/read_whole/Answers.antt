@@ -1,4 +1,4 @@
-use Rattle.std.proofs.Common.{ap, sym, ◌∙◌}
+use Rattle.std.proofs.Common.{sym, ◌∙◌}
 use Rattle.script_text.proofs.ScriptLaws.{is_script}
 use Rattle.script_text.proofs.whole.read_whole.Goals as goal
 

@@ -1,6 +1,5 @@
-use Rattle.std.proofs.Common.{sym, ◌∙◌, arith, rules}
-use Rattle.std.proofs.lemmas.Bool.{false≢true}
-use Rattle.state_delta.proofs.Halves.{shared_sides, agree_below, agree_rest, fewer_below, fewer_rest, in_below, in_rest, in_rest_only}
+use Rattle.std.proofs.Common.{arith, rules}
+use Rattle.state_delta.proofs.Halves.{shared_sides, agree_below, agree_rest, fewer_below, fewer_rest, in_rest}
 use Rattle.state_delta.proofs.search.+first_change.Goals as goal
 
 pub returns-then-is_shared : goal.returns-then-is_shared

@@ -1,6 +1,4 @@
-use Rattle.std.proofs.Common.{◌≡◌, ℕ, Bool, ◌==◌, ◌&&◌, not, List, Option, None, Some, refl, sym, ap, ◌∙◌}
-use Rattle.std.specs.List.{list_any}
-use Rattle.std.specs.Option.{option_copied, option_map}
+use Rattle.std.proofs.Common.{ℕ, ◌==◌, None, Some, refl, ap}
 use Rattle.switch_model.specs.declared.record.IntfRec.{IntfRec}
 use Rattle.state_keys.specs.PartKeys.{intf_of, IsIntfNumber}
 use Rattle.state_scan.proofs.Listing.{first_listed, found_number}

@@ -1,6 +1,5 @@
-use Rattle.std.proofs.Common.{◌≡◌, ℕ, Bool, ◌==◌, ◌&&◌, not, List, Option, refl, sym, ap, ◌∙◌}
+use Rattle.std.proofs.Common.{Bool, sym, ◌∙◌}
 use Rattle.std.specs.List.{list_any}
-use Rattle.std.specs.Option.{option_copied, option_map}
 use Rattle.switch_model.specs.declared.key.NeighborKey.{NeighborKey}
 use Rattle.switch_model.specs.declared.record.NeighborRec.{NeighborRec}
 use Rattle.state_keys.specs.PartKeys.{arp_of, ndp_of}

@@ -1,11 +1,7 @@
-use Rattle.std.proofs.Common.{◌≡◌, ℕ, Bool, ◌==◌, ◌&&◌, not, List, Option, refl, sym, ap, ◌∙◌}
-use Rattle.std.specs.List.{list_any}
-use Rattle.std.specs.Option.{option_copied, option_map}
+use Rattle.std.proofs.Common.{◌==◌, sym, ◌∙◌}
 use Rattle.net_types.specs.declared.table.L2Key.{L2Key}
-use Rattle.switch_model.specs.declared.record.IntfRec.{IntfRec}
 use Rattle.switch_model.specs.declared.record.MacRec.{MacRec}
-use Rattle.switch_model.specs.declared.record.PortRec.{PortRec}
-use Rattle.state_keys.specs.PartKeys.{intf_of, port_of, station_of}
+use Rattle.state_keys.specs.PartKeys.{station_of}
 use Rattle.state_scan.proofs.Listing.{any_listed, or_else, or_then}
 use Rattle.state_scan.proofs.scan.is_port_used.Goals as goal
 

@@ -1,4 +1,4 @@
-use Rattle.std.proofs.Common.{◌≡◌, ◌<◌, sym, ap, ◌∙◌, subst, arith}
+use Rattle.std.proofs.Common.{◌≡◌, ◌<◌, ap, ◌∙◌, subst, arith}
 use Rattle.switch_state.specs.Follows.{Follows}
 use Rattle.switch_state.specs.StateView.{StateView}
 use Rattle.switch_state.proofs.tests.edited.Goals as goal

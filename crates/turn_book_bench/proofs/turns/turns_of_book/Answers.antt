@@ -1,4 +1,4 @@
-use Rattle.std.proofs.Common.{arith, ◌≡◌, ℕ, ◌+◌, ◌<◌, length, slice_index_or, refl, ap, sym, ◌∙◌, subst}
+use Rattle.std.proofs.Common.{arith, ◌≡◌, ℕ, ◌+◌, length, slice_index_or, refl, ap, sym, ◌∙◌, subst}
 use Rattle.turn_book.specs.Passes.{IsPassOf, new_pass, new_passes}
 use Rattle.turn_book.specs.Closing.{HoldsNothing}
 use Rattle.turn_book.specs.PassLaws.{new_pass_at, length-new_passes}

@@ -1,4 +1,4 @@
-use Rattle.std.proofs.Common.{rules, arith, ◌≡◌, suc, ◌+◌, ◌*◌, [], ◌∷◌, ◌++◌, length, get_or, ap, sym, ◌∙◌, subst}
+use Rattle.std.proofs.Common.{rules, arith, ◌≡◌, suc, ◌+◌, ◌*◌, length, get_or, ap, sym, ◌∙◌, subst}
 use mathlib.Core.List.{IsPrefix}
 use Rattle.turn_book.specs.Lists.{strip}
 use Rattle.turn_book.proofs.Own.{strip_grows}

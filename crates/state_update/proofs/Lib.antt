@@ -1,0 +1,9 @@
+pub mod Cases
+pub mod Keeping
+pub mod Changing
+pub mod Doubles
+pub mod Renewing
+pub mod Syncing
+pub mod Filtered
+pub mod Synced
+pub mod Building

@@ -1,0 +1,30 @@
+use Rattle.std.proofs.Common.{◌≡◌, List, filter, map, ap, ◌∙◌}
+use Rattle.net_types.specs.Cidr.{Cidr}
+use Rattle.switch_model.specs.declared.key.RibKey.{RibKey}
+use Rattle.switch_model.specs.declared.record.RouteRec.{RouteRec}
+use Rattle.switch_model.specs.Effect.{with_routes}
+use Rattle.switch_model.specs.PlainState.{PlainState}
+use Rattle.switch_state.specs.Plain.{plain}
+use Rattle.state_update.specs.Sync.{is_unlisted, without_routes}
+use Rattle.state_update.proofs.Cases.{on_ok}
+use Rattle.state_update.proofs.Keeping.{routes_keep}
+use Rattle.state_update.proofs.Renewing.{lost_and_renewed}
+use Rattle.state_update.proofs.Synced.{gone_apart, synced}
+use Rattle.state_update.proofs.Syncing.{only_more}
+use Rattle.state_update.proofs.sync.sync_client.Goals as goal
+
+pub returns-clause-effect : goal.returns-clause-effect
+returns-clause-effect c =
+    let old : PlainState = plain c.args.edit.now.state in
+    let gone : c.as_slice.result.now ≡ map (λ e. e.0.prefix) (filter (λ e. is_unlisted c.args.vrf c.args.client (map (λ r. r.0) c.args.routes.now) e.0) old.routes) = c.as_slice.ensures.value ∙ c.in_ok-gone.ensures.unlisted in
+    on_ok c.put_routes.result _ _ _ c.put_routes.ensures.effect
+    (ap (λ (m : PlainState). record m { routes = with_routes c.args.vrf c.args.client c.args.routes.now m.routes }) c.in_ok-cut_routes.ensures.effect
+    ∙ ap (λ (l : List Cidr). record old { routes = with_routes c.args.vrf c.args.client c.args.routes.now (without_routes c.args.vrf c.args.client l old.routes) }) gone
+    ∙ ap (λ (l : List (RibKey × RouteRec)). record old { routes = l }) (synced c.args.vrf c.args.client c.args.routes.now old.routes c.in_ok-gone.ensures.ascend))
+
+pub returns-clause-rest : goal.returns-clause-rest
+returns-clause-rest c =
+    let gone : c.as_slice.result.now ≡ map (λ e. e.0.prefix) (filter (λ e. is_unlisted c.args.vrf c.args.client (map (λ r. r.0) c.args.routes.now) e.0) (plain c.args.edit.now.state).routes) = c.as_slice.ensures.value ∙ c.in_ok-gone.ensures.unlisted in
+    routes_keep c.args.edit.now c.put_routes.new.edit
+    (only_more c.args.edit.now c.cut_routes.new.edit c.put_routes.new.edit c.cut_routes.ensures.others c.put_routes.ensures.others)
+    (lost_and_renewed (gone_apart c.args.vrf c.args.client c.args.routes.now (plain c.args.edit.now.state).routes c.as_slice.result.now gone) c.cut_routes.ensures.births c.put_routes.ensures.births)

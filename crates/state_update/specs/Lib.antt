@@ -1,0 +1,5 @@
+pub mod Births
+pub mod Kind
+pub mod Sync
+pub mod Applied
+pub mod Refused
