@@ -1,5 +1,5 @@
 // Programs a chip with a whole state.
-ghost use Rattle.std.specs.Prelude.{◌≡◌, ◌↔◌, IsErr, None, OnErr, OnOk, Some, length};
+ghost use Rattle.std.specs.Prelude.{◌≡◌, ◌↔◌, IsErr, None, OnOk, Some, length};
 ghost use Rattle.keyed.specs.Keyed.{at, put};
 ghost use Rattle.net_types.specs.KeyOrder.{l2_cmp};
 ghost use Rattle.net_types.specs.declared.table.Table.TheVariants.{L2};

@@ -1,7 +1,6 @@
 // Programs the chip with the rows that a valid act changes.
-ghost use Rattle.std.specs.Prelude.{◌≡◌, ◌==◌, ◌+◌, ◌↔◌, false, None, Some, IsErr, IsSome, OnErr, OnOk, if◌then◌else◌};
+ghost use Rattle.std.specs.Prelude.{◌≡◌, ◌==◌, ◌+◌, ◌↔◌, false, None, Some, IsErr, IsSome, OnErr, OnOk};
 ghost use Rattle.keyed.specs.Keyed.{change};
-ghost use Rattle.net_types.specs.KeyOrder.{l2_cmp};
 ghost use Rattle.std.specs.Ordering.{nat_cmp};
 ghost use Rattle.net_types.specs.declared.table.Table.TheVariants.{L2};
 ghost use Rattle.agent_run.specs.Served.{IsServed};

@@ -1,5 +1,5 @@
 // The run of one caller's updates.
-ghost use Rattle.std.specs.Prelude.{◌≡◌, ◌≤◌, [], ◌∷◌, ◌++◌, IfOk, OnOk, length};
+ghost use Rattle.std.specs.Prelude.{◌≡◌, ◌≤◌, IfOk, OnOk};
 ghost use Rattle.std.specs.List.{AllByRecursion};
 ghost use Rattle.chip_core.specs.Chip.{view_of};
 ghost use Rattle.net_types.specs.Capacity.{Fits};

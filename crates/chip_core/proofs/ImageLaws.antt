@@ -28,7 +28,8 @@ use Rattle.chip_core.specs.Sim.{tables_of}
 use Rattle.chip_core.specs.Slots.{Hosts, Groups, host_entries, host_at, hosts_of}
 use Rattle.chip_core.specs.SlotsLaws.{Entries, rows-entries, host_at-rows}
 use Rattle.chip_core.specs.Sound.{is_chip}
-use Rattle.chip_core.specs.Tables.{IsSorted, IsSlotted, IsGroupRow, MembersHeld, RoutesHeld}
+use Rattle.chip_core.specs.Tables.{IsSlotted, IsGroupRow, MembersHeld, RoutesHeld}
+use Rattle.sorted_table.specs.Rows.{IsSorted}
 
 abbrev pub L2s : Type 0
 L2s = List (L2Key × L2Row)

@@ -1,7 +1,7 @@
 mod ImageLaws
 mod IndexLaws
-mod LowestFree
 mod Members
 mod Outcomes
 mod RawLaws
 mod SlotLaws
+mod TakenLaws

@@ -1,5 +1,5 @@
 -- Facts about a result that is Ok.
-use Rattle.std.proofs.Common.{◌≡◌, Result, Ok, Err, IfOk, OnOk, IsTrue, Bool, true, false, refl, subst}
+use Rattle.std.proofs.Common.{◌≡◌, Result, Ok, Err, IfOk, OnOk, IsTrue, Bool, true, false, refl, subst, Option, None, Some, Bor, is_some, option_copied}
 
 pub if_ok : {T E : Type 0} (P : T → Type 0) (r : Result T E) → ((t : T) → r ≡ Ok t → P t) → IfOk r P
 if_ok P (Ok t) h = h t refl
@@ -23,3 +23,8 @@ refused false passes failed p = let no : false ≡ true = passes p in cc
 
 pub never : {P : Type 0} → IsTrue false → P
 never h = absurd (cc)
+
+-- a borrowed value that is there
+pub some_copied : {T : Type 0} (o : Option (Bor T)) → is_some o ≡ is_some (option_copied o)
+some_copied None = refl
+some_copied (Some b) = refl

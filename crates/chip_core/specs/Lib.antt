@@ -7,5 +7,6 @@ pub mod Sim
 pub mod SlotsLaws
 pub mod LinkLaws
 pub mod Tables
+pub mod Taken
 pub mod Sound
 pub mod ChipLaws

@@ -19,7 +19,8 @@ use Rattle.net_types.specs.declared.table.RouteRow.{RouteRow}
 use Rattle.chip_core.specs.Chip.{IsChip, AreLinked}
 use Rattle.chip_core.specs.Sim.{tables_of}
 use Rattle.chip_core.specs.Slots.{hosts_of}
-use Rattle.chip_core.specs.Tables.{IsSlotted, IsSorted}
+use Rattle.chip_core.specs.Tables.{IsSlotted}
+use Rattle.sorted_table.specs.Rows.{IsSorted}
 use Rattle.chip_core.specs.SlotsLaws.{Entries, entries-rows, host_at-rows, length-rows}
 
 pub is_chip : (l2_room host_room group_room route_room : ℕ) (l2 : List (L2Key × L2Row)) (hosts : Entries) (groups : List (ℕ × List Member)) (routes : List (RouteKey × RouteRow)) → IsSorted l2_cmp l2_room l2 → IsSlotted (host.cmp-value).it (λ h. h.0) host_room hosts → IsSlotted (slice_cmp nat_cmp) hosts_of group_room groups → IsSorted (route.cmp-value).it route_room routes → AreLinked (tables_of l2 hosts groups routes) → IsChip (record { l2 = l2_room; host = host_room; group = group_room; route = route_room }) (tables_of l2 hosts groups routes)

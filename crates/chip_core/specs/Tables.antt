@@ -5,6 +5,8 @@ use Rattle.std.specs.Ordering.{nat_cmp}
 use Rattle.std.specs.declared.cmp.Ordering.{Ordering}
 use Rattle.keyed.specs.Keyed.{at, Ascends}
 use Rattle.keyed.specs.Named.{AreDistinct}
+use Rattle.keyed.specs.Props.{AreDistinct-prop, Ascends-prop}
+use Rattle.std.specs.Coded.{le_prop}
 use Rattle.net_types.specs.Groups.{IsGroupLength}
 use Rattle.net_types.specs.declared.group.Member.{Member}
 use Rattle.net_types.specs.declared.table.RouteKey.{RouteKey}
@@ -21,10 +23,13 @@ pub record IsSlotted {N V : Type 0} (cmp : N → N → Ordering) (name : V → N
   pub fits : length rows ≤ capacity
   pub below : (slot : ℕ) → IsSome (at nat_cmp slot rows) → slot < capacity
 
--- a table by key
-pub record IsSorted {K V : Type 0} (cmp : K → K → Ordering) (capacity : ℕ) (rows : List (K × V)) : Type 0 where
-  pub ascends : Ascends cmp rows
-  pub fits : length rows ≤ capacity
+pub IsSlotted-prop : {N V : Type 0} (cmp : N → N → Ordering) (name : V → N) (capacity : ℕ) (rows : List (ℕ × V)) → IsProp (IsSlotted cmp name capacity rows)
+IsSlotted-prop cmp name capacity rows = λ a b i. record {
+  ascends = Ascends-prop nat_cmp rows a.ascends b.ascends i;
+  distinct = AreDistinct-prop cmp name rows a.distinct b.distinct i;
+  fits = le_prop a.fits b.fits i;
+  below = λ slot there. le_prop (a.below slot there) (b.below slot there) i;
+}
 
 -- a group has 2 to 64 members, and names no host twice
 pub record IsGroupRow (members : List Member) : Type 0 where

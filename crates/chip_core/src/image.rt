@@ -2,13 +2,14 @@
 ghost use Rattle.std.specs.Prelude.{◌≡◌, ◌==◌, ◌↔◌, ◌++◌, ◌∷◌, [], All, Err, IfOk, IsSome, IsTrue, OnOk, SomeIff, nat_eq};
 ghost use Rattle.std.specs.List.{IsDistinct, list_any};
 ghost use Rattle.std.specs.Ordering.{nat_cmp};
-ghost use Rattle.keyed.specs.Keyed.{Ascends, at};
+ghost use Rattle.keyed.specs.Keyed.{at};
 ghost use Rattle.chip_core.specs.References.{IsRouteHeld};
 ghost use Rattle.chip_core.specs.Sim.{tables_of};
 ghost use Rattle.chip_core.specs.Slots.{host_entries, hosts_of};
 ghost use Rattle.chip_core.specs.Tables.{IsGroupRow};
 
 use crate::RowsFault;
+use crate::named::{GroupTable, HostTable};
 use net_types::{GroupRow, HostKey, HostRow, Member, MemberList, NoMemory, RouteKey, RouteRow};
 use std::alloc::Global;
 
@@ -104,15 +105,11 @@ fn is_named(host: u32, members: &[Member]) -> bool
 }
 
 /// Whether each group's hosts are there.
-pub(crate) fn are_groups_held(
-    hosts: &[(u32, (HostKey, HostRow))],
-    groups: &[(u32, GroupRow)],
-) -> bool
-    requires { Ascends nat_cmp hosts.now }
-    ensures { IsTrue result ↔ All (λ group. All (λ member. IsSome (at nat_cmp member.host hosts.now)) group.1) groups.now }
+pub(crate) fn are_groups_held(hosts: &HostTable, groups: &[(u32, MemberList)]) -> bool
+    ensures { IsTrue result ↔ All (λ group. All (λ member. IsSome (at nat_cmp member.host hosts.now.rows)) group.1) groups.now }
 {
     for group in groups {
-        if !are_held(hosts, group.1.members()) {
+        if !are_held(hosts, group.1.as_slice()) {
             return false;
         }
     }
@@ -120,12 +117,11 @@ pub(crate) fn are_groups_held(
 }
 
 /// Whether each member's host is there.
-fn are_held(hosts: &[(u32, (HostKey, HostRow))], members: &[Member]) -> bool
-    requires { Ascends nat_cmp hosts.now }
-    ensures { IsTrue result ↔ All (λ member. IsSome (at nat_cmp member.host hosts.now)) members.now }
+fn are_held(hosts: &HostTable, members: &[Member]) -> bool
+    ensures { IsTrue result ↔ All (λ member. IsSome (at nat_cmp member.host hosts.now.rows)) members.now }
 {
     for member in members {
-        if !keyed::contains(hosts, &member.host) {
+        if hosts.get(member.host).is_none() {
             return false;
         }
     }
@@ -134,13 +130,11 @@ fn are_held(hosts: &[(u32, (HostKey, HostRow))], members: &[Member]) -> bool
 
 /// Whether what each route leads to is there.
 pub(crate) fn are_routes_held(
-    hosts: &[(u32, (HostKey, HostRow))],
-    groups: &[(u32, GroupRow)],
+    hosts: &HostTable,
+    groups: &GroupTable,
     routes: &[(RouteKey, RouteRow)],
 ) -> bool
-    requires hosts { Ascends nat_cmp hosts.now }
-    requires groups { Ascends nat_cmp groups.now }
-    ensures { IsTrue result ↔ All (λ route. IsRouteHeld (tables_of [] hosts.now groups.now []) route.1) routes.now }
+    ensures { IsTrue result ↔ All (λ route. IsRouteHeld (tables_of [] hosts.now.rows groups.now.rows []) route.1) routes.now }
 {
     for route in routes {
         if !is_route_held(hosts, groups, &route.1) {
@@ -151,18 +145,12 @@ pub(crate) fn are_routes_held(
 }
 
 /// Whether what the route leads to is there.
-fn is_route_held(
-    hosts: &[(u32, (HostKey, HostRow))],
-    groups: &[(u32, GroupRow)],
-    row: &RouteRow,
-) -> bool
-    requires hosts { Ascends nat_cmp hosts.now }
-    requires groups { Ascends nat_cmp groups.now }
-    ensures { IsTrue result ↔ IsRouteHeld (tables_of [] hosts.now groups.now []) row.now }
+fn is_route_held(hosts: &HostTable, groups: &GroupTable, row: &RouteRow) -> bool
+    ensures { IsTrue result ↔ IsRouteHeld (tables_of [] hosts.now.rows groups.now.rows []) row.now }
 {
     match row {
-        RouteRow::Host(slot) => keyed::contains(hosts, slot),
-        RouteRow::Group(slot) => keyed::contains(groups, slot),
+        RouteRow::Host(slot) => hosts.get(*slot).is_some(),
+        RouteRow::Group(slot) => groups.get(*slot).is_some(),
         RouteRow::ToCpu | RouteRow::Discard => true,
     }
 }

@@ -1,7 +1,6 @@
 //! The chip: its tables, the calls that each chip has, and a chip in memory.
 #![tactic(auto)]
 
-mod bounded;
 mod changes;
 mod count;
 mod fault;

@@ -1,12 +1,16 @@
-// The names by which hosts and groups are found.
+// The tables of hosts and groups, and the names by which these are found.
 ghost use Rattle.net_types.specs.Derived.{host_order-derived};
 ghost use Rattle.std.specs.Ordering.{nat_cmp};
 ghost use Rattle.keyed.specs.KeyOrders.{lists_order, nat_order};
 ghost use Rattle.chip_core.specs.Slots.{hosts_of};
 
 use crate::group_key::GroupKey;
-use crate::slots::Named;
+use crate::slots::{Named, SlotTable};
 use net_types::{GroupRow, HostKey, HostRow};
+
+pub(crate) type HostTable = SlotTable<HostKey, (HostKey, HostRow)>;
+
+pub(crate) type GroupTable = SlotTable<GroupKey, GroupRow>;
 
 /// A host is found by its key.
 impl Named<HostKey> for (HostKey, HostRow) {

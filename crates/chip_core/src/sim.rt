@@ -1,37 +1,41 @@
 // A chip in memory.
-ghost use Rattle.std.specs.Prelude.{◌≡◌, ◌↔◌, All, Err, IfOk, IsTrue, OnOk};
+ghost use Rattle.std.specs.Prelude.{◌≡◌, ◌<◌, ◌^◌, ◌↔◌, ◌++◌, ◌∷◌, All, Err, IfOk, IsTrue, OnOk, [], length};
 ghost use Rattle.std.specs.Cmp.Lexicographic.{slice_cmp};
 ghost use Rattle.std.specs.Ordering.{nat_cmp};
 ghost use Rattle.chip_core.specs.Chip.{AreLinked, IsImage, empty};
 ghost use Rattle.chip_core.specs.Sim.{AreLinked-prop, tables_of};
 ghost use Rattle.chip_core.specs.Slots.{host_entries, host_rows, hosts_of};
 ghost use Rattle.chip_core.specs.Sound.{is_chip};
-ghost use Rattle.chip_core.specs.Tables.{IsGroupRow, IsSlotted, MembersHeld, RoutesHeld};
+ghost use Rattle.chip_core.specs.Tables.{IsGroupRow, IsSlotted, IsSlotted-prop, MembersHeld, RoutesHeld};
+ghost use Rattle.chip_core.specs.Taken.{taken};
+ghost use Rattle.sorted_table.specs.Rows.{IsSorted, IsSorted-prop};
 
-use crate::bounded::Bounded;
 use crate::group_key::GroupKey;
-use crate::slots::SlotTable;
+use crate::named::{GroupTable, HostTable};
+use crate::slots::{Named, SlotTable};
 use crate::{Full, HwSwitch, RowsFault, WriteCount, image};
 use net_types::{
     Caps, GroupRow, GroupRowList, HostKey, HostRow, HostRowList, ItemList, L2Key, L2Row,
     MemberList, NoMemory, RouteKey, RouteRow, Tables,
 };
+use sorted_table::SortedTable;
 use std::alloc::Global;
 
-type HostTable = SlotTable<HostKey, (HostKey, HostRow)>;
-
-type GroupTable = SlotTable<GroupKey, GroupRow>;
-
 /// A chip in memory. It takes all its room when it is opened. Rows, and the slots of hosts and
-/// groups, are found by binary search; a row that is added or taken away moves those of higher keys.
+/// groups by their keys, are found by binary search; a row that is added or taken away moves at most
+/// some dozens of others.
 #[derive(Drop)]
 pub struct SimChip {
-    l2: Bounded<L2Key, L2Row>,
+    l2: SortedTable<L2Key, L2Row>,
     hosts: HostTable,
     groups: GroupTable,
-    routes: Bounded<RouteKey, RouteRow>,
+    routes: SortedTable<RouteKey, RouteRow>,
     writes: WriteCount,
-    ghost linked: { AreLinked (tables_of l2.rows.items hosts.rows.rows.items groups.rows.rows.items routes.rows.items) } by { AreLinked-prop (tables_of l2.rows.items hosts.rows.rows.items groups.rows.rows.items routes.rows.items) },
+    ghost l2_sorted: { IsSorted ⟦<L2Key as Ord>⟧.cmp l2.capacity l2.rows } by { IsSorted-prop ⟦<L2Key as Ord>⟧.cmp l2.capacity l2.rows },
+    ghost routes_sorted: { IsSorted ⟦<RouteKey as Ord>⟧.cmp routes.capacity routes.rows } by { IsSorted-prop ⟦<RouteKey as Ord>⟧.cmp routes.capacity routes.rows },
+    ghost hosts_slotted: { IsSlotted ⟦<HostKey as Ord>⟧.cmp (λ host. host.0) hosts.capacity hosts.rows } by { IsSlotted-prop ⟦<HostKey as Ord>⟧.cmp (λ host. host.0) hosts.capacity hosts.rows },
+    ghost groups_slotted: { IsSlotted (slice_cmp nat_cmp) hosts_of groups.capacity groups.rows } by { IsSlotted-prop (slice_cmp nat_cmp) hosts_of groups.capacity groups.rows },
+    ghost linked: { AreLinked (tables_of l2.rows hosts.rows groups.rows routes.rows) } by { AreLinked-prop (tables_of l2.rows hosts.rows groups.rows routes.rows) },
 }
 
 impl SimChip {
@@ -42,10 +46,10 @@ impl SimChip {
         ensures writes { IfOk result (λ chip. ⟦<SimChip as HwSwitch>⟧.writes chip ≡ 0) }
     {
         Ok(SimChip {
-            l2: Bounded::open(alloc, caps.l2)?,
+            l2: SortedTable::open(alloc, caps.l2)?,
             hosts: SlotTable::open(alloc, caps.host)?,
             groups: SlotTable::open(alloc, caps.group)?,
-            routes: Bounded::open(alloc, caps.route)?,
+            routes: SortedTable::open(alloc, caps.route)?,
             writes: WriteCount::new(),
         })
     }
@@ -65,7 +69,7 @@ impl SimChip {
             group,
             route,
         } = tables;
-        let l2 = match Bounded::of(caps.l2, l2.into_vec()) {
+        let l2 = match sorted_table(alloc, caps.l2, l2.into_vec()) {
             Ok(table) => table,
             Err(fault) => return Err(fault),
         };
@@ -77,13 +81,14 @@ impl SimChip {
             Ok(table) => table,
             Err(fault) => return Err(fault),
         };
-        let routes = match Bounded::of(caps.route, route.into_vec()) {
+        let route = route.into_vec();
+        if !are_linked(&hosts, &groups, group.as_slice(), route.as_slice()) {
+            return Err(RowsFault::BadRows);
+        }
+        let routes = match sorted_table(alloc, caps.route, route) {
             Ok(table) => table,
             Err(fault) => return Err(fault),
         };
-        if !are_linked(&hosts, &groups, &routes) {
-            return Err(RowsFault::BadRows);
-        }
         Ok(SimChip {
             l2,
             hosts,
@@ -95,9 +100,9 @@ impl SimChip {
 }
 
 impl HwSwitch for SimChip {
-    ghost raw = { λ chip. tables_of chip.l2.rows.items chip.hosts.rows.rows.items chip.groups.rows.rows.items chip.routes.rows.items };
+    ghost raw = { λ chip. tables_of chip.l2.rows chip.hosts.rows chip.groups.rows chip.routes.rows };
 
-    ghost caps = { λ chip. record { l2 = chip.l2.capacity; host = chip.hosts.rows.capacity; group = chip.groups.rows.capacity; route = chip.routes.capacity } };
+    ghost caps = { λ chip. record { l2 = chip.l2.capacity; host = chip.hosts.capacity; group = chip.groups.capacity; route = chip.routes.capacity } };
 
     ghost writes = { λ chip. chip.writes.writes };
 
@@ -225,19 +230,55 @@ impl HwSwitch for SimChip {
 
     fn copy_tables(&self, alloc: Global) -> Result<Tables, NoMemory> {
         Ok(Tables {
-            l2: ItemList::from_vec(self.l2.rows.to_vec(alloc)?),
-            host: copy_hosts(alloc, self.hosts.rows.rows.as_slice())?,
-            group: copy_groups(alloc, self.groups.rows.rows.as_slice())?,
-            route: ItemList::from_vec(self.routes.rows.to_vec(alloc)?),
+            l2: ItemList::from_vec(self.l2.to_vec(alloc)?),
+            host: copy_hosts(alloc, self.hosts.slots())?,
+            group: copy_groups(alloc, self.groups.slots())?,
+            route: ItemList::from_vec(self.routes.to_vec(alloc)?),
         })
     }
 
-    ghost sound = { λ chip. is_chip chip.l2.capacity chip.hosts.rows.capacity chip.groups.rows.capacity chip.routes.capacity chip.l2.rows.items chip.hosts.rows.rows.items chip.groups.rows.rows.items chip.routes.rows.items
-        (record { ascends = chip.l2.ascends; fits = chip.l2.fits })
-        (record { ascends = chip.hosts.rows.ascends; distinct = chip.hosts.distinct; fits = chip.hosts.rows.fits; below = chip.hosts.below })
-        (record { ascends = chip.groups.rows.ascends; distinct = chip.groups.distinct; fits = chip.groups.rows.fits; below = chip.groups.below })
-        (record { ascends = chip.routes.ascends; fits = chip.routes.fits })
+    ghost sound = { λ chip. is_chip chip.l2.capacity chip.hosts.capacity chip.groups.capacity chip.routes.capacity chip.l2.rows chip.hosts.rows chip.groups.rows chip.routes.rows
+        chip.l2_sorted
+        chip.hosts_slotted
+        chip.groups_slotted
+        chip.routes_sorted
         chip.linked };
+}
+
+/// The table of these rows by key.
+fn sorted_table<K: Ord + Drop, V: Drop>(
+    alloc: Global,
+    capacity: u32,
+    rows: Vec<(K, V)>,
+) -> Result<SortedTable<K, V>, RowsFault>
+    ensures rows { IfOk result (λ table. table.rows ≡ rows.items) }
+    ensures capacity { IfOk result (λ table. table.capacity ≡ capacity) }
+    ensures sorted { IfOk result (λ table. IsSorted K.cmp table.capacity table.rows) }
+    ensures bad { result ≡ Err RowsFault.BadRows → ¬ IsSorted K.cmp capacity rows.items }
+{
+    match SortedTable::of(alloc, capacity, rows) {
+        Ok(Some(table)) => Ok(table),
+        Ok(None) => Err(RowsFault::BadRows),
+        Err(_) => Err(RowsFault::NoMemory),
+    }
+}
+
+/// The table of these rows by slot.
+fn slot_table<N: Ord + Drop, V: Named<N>>(
+    alloc: Global,
+    capacity: u32,
+    rows: Vec<(u32, V)>,
+) -> Result<SlotTable<N, V>, RowsFault>
+    ensures rows { IfOk result (λ table. table.rows ≡ rows.items) }
+    ensures capacity { IfOk result (λ table. table.capacity ≡ capacity) }
+    ensures slotted { IfOk result (λ table. IsSlotted N.cmp V.name table.capacity table.rows) }
+    ensures bad { result ≡ Err RowsFault.BadRows → ¬ IsSlotted N.cmp V.name capacity rows.items }
+{
+    match SlotTable::of(alloc, capacity, rows) {
+        Ok(Some(table)) => Ok(table),
+        Ok(None) => Err(RowsFault::BadRows),
+        Err(_) => Err(RowsFault::NoMemory),
+    }
 }
 
 /// The host table of these rows.
@@ -246,13 +287,14 @@ fn host_table(
     capacity: u32,
     hosts: &[(u32, HostKey, HostRow)],
 ) -> Result<HostTable, RowsFault>
-    ensures rows { IfOk result (λ table. table.rows.rows.items ≡ host_entries hosts.now) }
-    ensures capacity { IfOk result (λ table. table.rows.capacity ≡ capacity) }
+    ensures rows { IfOk result (λ table. table.rows ≡ host_entries hosts.now) }
+    ensures capacity { IfOk result (λ table. table.capacity ≡ capacity) }
+    ensures slotted { IfOk result (λ table. IsSlotted ⟦<HostKey as Ord>⟧.cmp (λ host. host.0) table.capacity table.rows) }
     ensures bad { result ≡ Err RowsFault.BadRows
         → ¬ IsSlotted ⟦<HostKey as Ord>⟧.cmp (λ host. host.0) capacity (host_entries hosts.now) }
 {
     match image::host_entries(alloc, hosts) {
-        Ok(rows) => SlotTable::of(alloc, capacity, rows),
+        Ok(rows) => slot_table(alloc, capacity, rows),
         Err(_) => Err(RowsFault::NoMemory),
     }
 }
@@ -263,8 +305,9 @@ fn group_table(
     capacity: u32,
     groups: &[(u32, MemberList)],
 ) -> Result<GroupTable, RowsFault>
-    ensures rows { IfOk result (λ table. table.rows.rows.items ≡ groups.now) }
-    ensures capacity { IfOk result (λ table. table.rows.capacity ≡ capacity) }
+    ensures rows { IfOk result (λ table. table.rows ≡ groups.now) }
+    ensures capacity { IfOk result (λ table. table.capacity ≡ capacity) }
+    ensures slotted { IfOk result (λ table. IsSlotted (slice_cmp nat_cmp) hosts_of table.capacity table.rows) }
     ensures groups { OnOk result (All (λ group. IsGroupRow group.1) groups.now) }
     ensures bad { result ≡ Err RowsFault.BadRows
         → ¬ (IsSlotted (slice_cmp nat_cmp) hosts_of capacity groups.now × All (λ group. IsGroupRow group.1) groups.now) }
@@ -273,41 +316,78 @@ fn group_table(
         Ok(rows) => rows,
         Err(fault) => return Err(fault),
     };
-    SlotTable::of(alloc, capacity, rows)
+    slot_table(alloc, capacity, rows)
 }
 
 /// Whether what members and routes lead to is there.
-fn are_linked(hosts: &HostTable, groups: &GroupTable, routes: &Bounded<RouteKey, RouteRow>) -> bool
-    ensures { IsTrue result ↔ (MembersHeld hosts.now.rows.rows.items groups.now.rows.rows.items
-        × RoutesHeld hosts.now.rows.rows.items groups.now.rows.rows.items routes.now.rows.items) }
+fn are_linked(
+    hosts: &HostTable,
+    groups: &GroupTable,
+    members: &[(u32, MemberList)],
+    routes: &[(RouteKey, RouteRow)],
+) -> bool
+    ensures { IsTrue result ↔ (MembersHeld hosts.now.rows members.now
+        × RoutesHeld hosts.now.rows groups.now.rows routes.now) }
 {
-    let hosts = hosts.rows.rows.as_slice();
-    let groups = groups.rows.rows.as_slice();
-    if !image::are_groups_held(hosts, groups) {
+    if !image::are_groups_held(hosts, members) {
         return false;
     }
-    image::are_routes_held(hosts, groups, routes.rows.as_slice())
+    image::are_routes_held(hosts, groups, routes)
 }
 
 /// The rows of the host table, as they are listed.
-fn copy_hosts(alloc: Global, hosts: &[(u32, (HostKey, HostRow))]) -> Result<HostRowList, NoMemory>
-    ensures { IfOk result (λ list. list ≡ host_rows hosts.now) }
+fn copy_hosts(alloc: Global, slots: &[Option<(HostKey, HostRow)>]) -> Result<HostRowList, NoMemory>
+    requires { length slots.now < 2 ^ 32 }
+    ensures { IfOk result (λ list. list ≡ host_rows (taken 0 slots.now)) }
 {
     let mut list = ItemList::new(alloc);
-    for host in hosts {
-        list.push((host.0, host.1.0, host.1.1))?;
+    for slot in 0..slots.len() {
+        push_host(&mut list, slot as u32, &slots[slot])?;
     }
     Ok(list)
 }
 
+/// Puts a host last, where there is one.
+fn push_host(
+    list: &mut HostRowList,
+    slot: u32,
+    host: &Option<(HostKey, HostRow)>,
+) -> Result<(), NoMemory>
+    ensures { OnOk result (list.new ≡ list.old ++ host_rows (taken slot (host.now ∷ []))) }
+{
+    match host {
+        Some(host) => Ok(list.push((slot, host.0, host.1))?),
+        None => Ok(()),
+    }
+}
+
 /// The rows of the group table, as they are listed.
-fn copy_groups(alloc: Global, groups: &[(u32, GroupRow)]) -> Result<GroupRowList, NoMemory>
-    ensures { IfOk result (λ list. list ≡ groups.now) }
+fn copy_groups(alloc: Global, slots: &[Option<GroupRow>]) -> Result<GroupRowList, NoMemory>
+    requires { length slots.now < 2 ^ 32 }
+    ensures { IfOk result (λ list. list ≡ taken 0 slots.now) }
 {
     let mut list = ItemList::new(alloc);
-    for group in groups {
-        let members = ItemList::from_vec(group.1.members().to_vec(alloc)?);
-        list.push((group.0, members))?;
+    for slot in 0..slots.len() {
+        push_group(alloc, &mut list, slot as u32, &slots[slot])?;
     }
     Ok(list)
+}
+
+/// Puts a group last, where there is one.
+fn push_group(
+    alloc: Global,
+    list: &mut GroupRowList,
+    slot: u32,
+    group: &Option<GroupRow>,
+) -> Result<(), NoMemory>
+    ensures { OnOk result (list.new ≡ list.old ++ taken slot (group.now ∷ [])) }
+{
+    match group {
+        Some(group) => {
+            let members = ItemList::from_vec(group.members().to_vec(alloc)?);
+            list.push((slot, members))?;
+            Ok(())
+        }
+        None => Ok(()),
+    }
 }

@@ -1,5 +1,4 @@
 // Runs of calls, counted and timed.
-ghost use Rattle.std.specs.Prelude.{◌≡◌, []};
 
 use crate::runs::{Call, Order, group_calls, host_calls, l2_calls, route_calls};
 use chip_core::{Caps, HwSwitch, RowsFault, SimChip};

@@ -1,5 +1,5 @@
 // The route table's part of a commit.
-ghost use Rattle.std.specs.Prelude.{◌≡◌, ◌<◌, ◌≤◌, ◌+◌, None, Some, IsSome, OnErr, OnOk, length, vec_capacity, vec_len};
+ghost use Rattle.std.specs.Prelude.{◌≡◌, ◌<◌, ◌≤◌, ◌+◌, None, Some, OnErr, OnOk, length, vec_capacity, vec_len};
 ghost use Rattle.keyed.specs.Keyed.{at, put, without};
 ghost use Rattle.net_types.specs.KeyOrder.{route_cmp};
 ghost use Rattle.net_types.specs.declared.table.HopTarget.{HopTarget as HopTargetValue};

@@ -133,7 +133,8 @@ fn run_all<R: CpuClock + AllocGlobal, C: HwSwitch>(
 }
 
 /// A commit that is undone, since it also adds the route after so many, for which there is no room,
-/// and then the same without the route, which is kept.
+/// and then the same without the route, which is kept. Before both it is undone once untimed, so that
+/// neither meets cold caches.
 fn two_commits<R: CpuClock + AllocGlobal, C: HwSwitch>(
     rt: &R,
     chip: &mut C,
@@ -145,6 +146,7 @@ fn two_commits<R: CpuClock + AllocGlobal, C: HwSwitch>(
     requires { IsPlain (view_of (C.raw chip.old)) }
     ensures { OnOk result (IsPlain (view_of (C.raw chip.new))) }
 {
+    let _ = one_commit(rt, chip, log, rows, route_key(routes))?;
     let undone = one_commit(rt, chip, log, rows, route_key(routes))?;
     let kept = one_commit(rt, chip, log, rows, None)?;
     Ok(Totals {

@@ -1,5 +1,5 @@
 // A commit to a chip in memory.
-ghost use Rattle.std.specs.Prelude.{◌≡◌, ◌+◌, Err, IfOk, IfSome, OnOk};
+ghost use Rattle.std.specs.Prelude.{◌≡◌, Err, IfOk, IfSome, OnOk};
 ghost use Rattle.std.specs.Result.{result_err};
 ghost use Rattle.net_types.specs.Capacity.{over};
 ghost use Rattle.chip_core.specs.Changes.{changed_rows};

@@ -9,4 +9,4 @@ pub invariant_of-self : goal.invariant_of-self
 invariant_of-self c =
     let old = c.args.self.now in
     let long = subst IsGroupLength (ap length c.members.ensures.value) c.members.ensures.range in
-    record { linked = subst (λ groups. AreLinked (tables_of old.l2.rows.items old.hosts.rows.rows.items groups old.routes.rows.items)) (sym c.add-slot.ensures.rows) (linked-put_group old.l2.rows.items old.hosts.rows.rows.items old.groups.rows.rows.items old.routes.rows.items old.linked c.add-slot.result c.args.row long c.requires.held) }
+    record { l2_sorted = old.l2_sorted; routes_sorted = old.routes_sorted; hosts_slotted = old.hosts_slotted; groups_slotted = c.add-slot.ensures.slotted; linked = subst (λ groups. AreLinked (tables_of old.l2.rows old.hosts.rows groups old.routes.rows)) (sym c.add-slot.ensures.rows) (linked-put_group old.l2.rows old.hosts.rows old.groups.rows old.routes.rows old.linked c.add-slot.result c.args.row long c.requires.held) }

@@ -7,17 +7,17 @@ use Rattle.chip_core.proofs.RawLaws.{found_as, raw-put_host}
 use Rattle.chip_core.proofs.sim.SimChipHwSwitch.add_host.Goals as goal
 
 pub add-slot-requires-clause-absent : goal.add-slot-requires-clause-absent
-add-slot-requires-clause-absent c = sym (found_as c.args.key c.args.self.now.hosts.rows.rows.items) ∙ c.requires
+add-slot-requires-clause-absent c = sym (found_as c.args.key c.args.self.now.hosts.rows) ∙ c.requires
 
 pub invariant_of-self : goal.invariant_of-self
 invariant_of-self c =
     let old = c.args.self.now in
-    record { linked = subst (λ hosts. AreLinked (tables_of old.l2.rows.items hosts old.groups.rows.rows.items old.routes.rows.items)) (sym c.add-slot.ensures.rows) (linked-put_host old.l2.rows.items old.hosts.rows.rows.items old.groups.rows.rows.items old.routes.rows.items old.linked c.add-slot.result (c.args.key, c.args.row)) }
+    record { l2_sorted = old.l2_sorted; routes_sorted = old.routes_sorted; hosts_slotted = c.add-slot.ensures.slotted; groups_slotted = old.groups_slotted; linked = subst (λ hosts. AreLinked (tables_of old.l2.rows hosts old.groups.rows old.routes.rows)) (sym c.add-slot.ensures.rows) (linked-put_host old.l2.rows old.hosts.rows old.groups.rows old.routes.rows old.linked c.add-slot.result (c.args.key, c.args.row)) }
 
 pub returns-clause-slot : goal.returns-clause-slot
-returns-clause-slot c = lowest-rows c.add-slot.result c.args.self.now.hosts.rows.rows.items c.add-slot.ensures.slot
+returns-clause-slot c = lowest-rows c.add-slot.result c.args.self.now.hosts.rows c.add-slot.ensures.slot
 
 pub returns-clause-ok : goal.returns-clause-ok
 returns-clause-ok c =
     let old = c.args.self.now in
-    raw-put_host old.l2.rows.items old.hosts.rows.rows.items c.add-slot.new.self.rows.rows.items old.groups.rows.rows.items old.routes.rows.items c.add-slot.result c.args.key c.args.row c.add-slot.ensures.rows
+    raw-put_host old.l2.rows old.hosts.rows c.add-slot.new.self.rows old.groups.rows old.routes.rows c.add-slot.result c.args.key c.args.row c.add-slot.ensures.rows

@@ -7,4 +7,4 @@ use Rattle.chip_core.proofs.sim.SimChipHwSwitch.del_group.Goals as goal
 pub invariant_of-self : goal.invariant_of-self
 invariant_of-self c =
     let old = c.args.self.now in
-    record { linked = subst (λ groups. AreLinked (tables_of old.l2.rows.items old.hosts.rows.rows.items groups old.routes.rows.items)) (sym c.cut-old.ensures.rows) (linked-without_group old.l2.rows.items old.hosts.rows.rows.items old.groups.rows.rows.items old.routes.rows.items old.linked c.args.slot old.groups.rows.ascends c.requires.unused) }
+    record { l2_sorted = old.l2_sorted; routes_sorted = old.routes_sorted; hosts_slotted = old.hosts_slotted; groups_slotted = c.cut-old.ensures.slotted; linked = subst (λ groups. AreLinked (tables_of old.l2.rows old.hosts.rows groups old.routes.rows)) (sym c.cut-old.ensures.rows) (linked-without_group old.l2.rows old.hosts.rows old.groups.rows old.routes.rows old.linked c.args.slot old.groups_slotted.ascends c.requires.unused) }

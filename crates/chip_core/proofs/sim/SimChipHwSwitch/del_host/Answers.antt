@@ -7,17 +7,17 @@ use Rattle.chip_core.proofs.RawLaws.{raw-without_host, there_as}
 use Rattle.chip_core.proofs.sim.SimChipHwSwitch.del_host.Goals as goal
 
 pub cut-old-requires : goal.cut-old-requires
-cut-old-requires c = there_as c.args.slot c.args.self.now.hosts.rows.rows.items c.requires.there
+cut-old-requires c = there_as c.args.slot c.args.self.now.hosts.rows c.requires.there
 
 pub invariant_of-self : goal.invariant_of-self
 invariant_of-self c =
     let old = c.args.self.now in
-    record { linked = subst (λ hosts. AreLinked (tables_of old.l2.rows.items hosts old.groups.rows.rows.items old.routes.rows.items)) (sym c.cut-old.ensures.rows) (linked-without_host old.l2.rows.items old.hosts.rows.rows.items old.groups.rows.rows.items old.routes.rows.items old.linked c.args.slot old.hosts.rows.ascends c.requires.unused) }
+    record { l2_sorted = old.l2_sorted; routes_sorted = old.routes_sorted; hosts_slotted = c.cut-old.ensures.slotted; groups_slotted = old.groups_slotted; linked = subst (λ hosts. AreLinked (tables_of old.l2.rows hosts old.groups.rows old.routes.rows)) (sym c.cut-old.ensures.rows) (linked-without_host old.l2.rows old.hosts.rows old.groups.rows old.routes.rows old.linked c.args.slot old.hosts_slotted.ascends c.requires.unused) }
 
 pub returns-clause-raw : goal.returns-clause-raw
 returns-clause-raw c =
     let old = c.args.self.now in
-    raw-without_host old.l2.rows.items old.hosts.rows.rows.items c.cut-old.new.self.rows.rows.items old.groups.rows.rows.items old.routes.rows.items c.args.slot c.cut-old.ensures.rows
+    raw-without_host old.l2.rows old.hosts.rows c.cut-old.new.self.rows old.groups.rows old.routes.rows c.args.slot c.cut-old.ensures.rows
 
 pub returns-clause-old : goal.returns-clause-old
-returns-clause-old c = host_at-rows c.args.slot c.args.self.now.hosts.rows.rows.items ∙ c.cut-old.ensures.old
+returns-clause-old c = host_at-rows c.args.slot c.args.self.now.hosts.rows ∙ c.cut-old.ensures.old

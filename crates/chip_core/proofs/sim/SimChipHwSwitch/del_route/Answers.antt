@@ -9,6 +9,6 @@ use Rattle.chip_core.proofs.sim.SimChipHwSwitch.del_route.Goals as goal
 pub invariant_of-self : goal.invariant_of-self
 invariant_of-self c =
     let old = c.args.self.now in
-    let is = c.cut-old.ensures.rows ∙ ap (λ cmp. without cmp c.args.key.now old.routes.rows.items) route-derived in
-    let asc = subst (λ cmp. Ascends cmp old.routes.rows.items) route-derived old.routes.ascends in
-    record { linked = subst (λ routes. AreLinked (tables_of old.l2.rows.items old.hosts.rows.rows.items old.groups.rows.rows.items routes)) (sym is) (linked-without_route old.l2.rows.items old.hosts.rows.rows.items old.groups.rows.rows.items old.routes.rows.items old.linked c.args.key.now asc) }
+    let is = c.cut-old.ensures.rows ∙ ap (λ cmp. without cmp c.args.key.now old.routes.rows) route-derived in
+    let asc = subst (λ cmp. Ascends cmp old.routes.rows) route-derived old.routes_sorted.ascends in
+    record { l2_sorted = old.l2_sorted; routes_sorted = c.cut-old.ensures.sorted; hosts_slotted = old.hosts_slotted; groups_slotted = old.groups_slotted; linked = subst (λ routes. AreLinked (tables_of old.l2.rows old.hosts.rows old.groups.rows routes)) (sym is) (linked-without_route old.l2.rows old.hosts.rows old.groups.rows old.routes.rows old.linked c.args.key.now asc) }

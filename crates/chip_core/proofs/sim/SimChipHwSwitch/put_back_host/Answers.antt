@@ -7,17 +7,17 @@ use Rattle.chip_core.proofs.RawLaws.{found_as, raw-put_host}
 use Rattle.chip_core.proofs.sim.SimChipHwSwitch.put_back_host.Goals as goal
 
 pub put_back-requires-clause-absent : goal.put_back-requires-clause-absent
-put_back-requires-clause-absent c = sym (found_as c.args.key c.args.self.now.hosts.rows.rows.items) ∙ c.requires.absent
+put_back-requires-clause-absent c = sym (found_as c.args.key c.args.self.now.hosts.rows) ∙ c.requires.absent
 
 pub put_back-requires-clause-free : goal.put_back-requires-clause-free
-put_back-requires-clause-free c = sym (host_at-rows c.args.slot c.args.self.now.hosts.rows.rows.items) ∙ c.requires.free
+put_back-requires-clause-free c = sym (host_at-rows c.args.slot c.args.self.now.hosts.rows) ∙ c.requires.free
 
 pub invariant_of-self : goal.invariant_of-self
 invariant_of-self c =
     let old = c.args.self.now in
-    record { linked = subst (λ hosts. AreLinked (tables_of old.l2.rows.items hosts old.groups.rows.rows.items old.routes.rows.items)) (sym c.put_back.ensures.rows) (linked-put_host old.l2.rows.items old.hosts.rows.rows.items old.groups.rows.rows.items old.routes.rows.items old.linked c.args.slot (c.args.key, c.args.row)) }
+    record { l2_sorted = old.l2_sorted; routes_sorted = old.routes_sorted; hosts_slotted = c.put_back.ensures.slotted; groups_slotted = old.groups_slotted; linked = subst (λ hosts. AreLinked (tables_of old.l2.rows hosts old.groups.rows old.routes.rows)) (sym c.put_back.ensures.rows) (linked-put_host old.l2.rows old.hosts.rows old.groups.rows old.routes.rows old.linked c.args.slot (c.args.key, c.args.row)) }
 
 pub returns-clause-raw : goal.returns-clause-raw
 returns-clause-raw c =
     let old = c.args.self.now in
-    raw-put_host old.l2.rows.items old.hosts.rows.rows.items c.put_back.new.self.rows.rows.items old.groups.rows.rows.items old.routes.rows.items c.args.slot c.args.key c.args.row c.put_back.ensures.rows
+    raw-put_host old.l2.rows old.hosts.rows c.put_back.new.self.rows old.groups.rows old.routes.rows c.args.slot c.args.key c.args.row c.put_back.ensures.rows

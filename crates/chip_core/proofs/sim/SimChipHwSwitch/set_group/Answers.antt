@@ -15,5 +15,5 @@ same_hosts o before row named is = let both : Some (hosts_of before) ≡ Some (h
 pub invariant_of-self : goal.invariant_of-self
 invariant_of-self c =
     let old = c.args.self.now in
-    let same = same_hosts (at nat_cmp c.args.slot old.groups.rows.rows.items) c.set-old.result c.args.row c.requires c.set-old.ensures.old in
-    record { linked = subst (λ groups. AreLinked (tables_of old.l2.rows.items old.hosts.rows.rows.items groups old.routes.rows.items)) (sym c.set-old.ensures.rows) (linked-set_group old.l2.rows.items old.hosts.rows.rows.items old.groups.rows.rows.items old.routes.rows.items old.linked c.args.slot c.set-old.result c.args.row c.set-old.ensures.old same) }
+    let same = same_hosts (at nat_cmp c.args.slot old.groups.rows) c.set-old.result c.args.row c.requires c.set-old.ensures.old in
+    record { l2_sorted = old.l2_sorted; routes_sorted = old.routes_sorted; hosts_slotted = old.hosts_slotted; groups_slotted = c.set-old.ensures.slotted; linked = subst (λ groups. AreLinked (tables_of old.l2.rows old.hosts.rows groups old.routes.rows)) (sym c.set-old.ensures.rows) (linked-set_group old.l2.rows old.hosts.rows old.groups.rows old.routes.rows old.linked c.args.slot c.set-old.result c.args.row c.set-old.ensures.old same) }

@@ -13,19 +13,19 @@ use Rattle.chip_core.proofs.sim.SimChipHwSwitch.set_host.Goals as goal
 
 pub unreachable-requires : goal.unreachable-requires
 unreachable-requires c =
-    let there = there_as c.args.slot c.args.self.now.hosts.rows.rows.items c.requires in
-    none_there (at nat_cmp c.args.slot c.args.self.now.hosts.rows.rows.items) there (sym c.get.ensures ∙ sym c.copied.ensures ∙ c.in_default.is)
+    let there = there_as c.args.slot c.args.self.now.hosts.rows c.requires in
+    none_there (at nat_cmp c.args.slot c.args.self.now.hosts.rows) there (sym c.get.ensures ∙ sym c.copied.ensures ∙ c.in_default.is)
 
 pub invariant_of-self : goal.invariant_of-self
 invariant_of-self c =
     let old = c.args.self.now in
-    record { linked = subst (λ hosts. AreLinked (tables_of old.l2.rows.items hosts old.groups.rows.rows.items old.routes.rows.items)) (sym c.set-old.ensures.rows) (linked-put_host old.l2.rows.items old.hosts.rows.rows.items old.groups.rows.rows.items old.routes.rows.items old.linked c.args.slot (c.in-Some.key, c.args.row)) }
+    record { l2_sorted = old.l2_sorted; routes_sorted = old.routes_sorted; hosts_slotted = c.set-old.ensures.slotted; groups_slotted = old.groups_slotted; linked = subst (λ hosts. AreLinked (tables_of old.l2.rows hosts old.groups.rows old.routes.rows)) (sym c.set-old.ensures.rows) (linked-put_host old.l2.rows old.hosts.rows old.groups.rows old.routes.rows old.linked c.args.slot (c.in-Some.key, c.args.row)) }
 
 pub returns-clause-raw : goal.returns-clause-raw
 returns-clause-raw c =
     let old = c.args.self.now in
     let there = sym c.get.ensures ∙ sym c.copied.ensures ∙ c.in-Some.is in
-    raw-set_host old.l2.rows.items old.hosts.rows.rows.items c.set-old.new.self.rows.rows.items old.groups.rows.rows.items old.routes.rows.items c.args.slot (c.in-Some.key, c.in-Some.field-0-1) c.args.row there c.set-old.ensures.rows
+    raw-set_host old.l2.rows old.hosts.rows c.set-old.new.self.rows old.groups.rows old.routes.rows c.args.slot (c.in-Some.key, c.in-Some.field-0-1) c.args.row there c.set-old.ensures.rows
 
 pub returns-clause-old : goal.returns-clause-old
-returns-clause-old c = ap (option_map (λ (host : HostKey × HostRow). host.1)) (host_at-rows c.args.slot c.args.self.now.hosts.rows.rows.items ∙ c.set-old.ensures.old)
+returns-clause-old c = ap (option_map (λ (host : HostKey × HostRow). host.1)) (host_at-rows c.args.slot c.args.self.now.hosts.rows ∙ c.set-old.ensures.old)

@@ -1,9 +1,0 @@
-use Rattle.std.proofs.Common.{ap, length, arith}
-use Rattle.keyed.specs.ValueLaws.{length-without_most}
-use Rattle.chip_core.proofs.bounded.Bounded.cut.Goals as goal
-
-pub invariant_of-self : goal.invariant_of-self
-invariant_of-self g c =
-    let fewer = length-without_most g.K.Ord.cmp c.args.key.now c.args.self.now.rows.items in
-    let is = ap length c.cut.ensures.new in
-    record { ascends = c.cut.ensures.ascends; fits = omega (arith, fewer, is, c.args.self.now.fits); room = omega (arith, c.cut.ensures.room, c.args.self.now.room); small = c.args.self.now.small }

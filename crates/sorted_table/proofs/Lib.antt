@@ -1,0 +1,3 @@
+pub mod ChunkLaws
+pub mod EditLaws
+pub mod FilledLaws
