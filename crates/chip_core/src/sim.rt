@@ -110,7 +110,8 @@ impl HwSwitch for SimChip {
         if self.l2.is_full() {
             return Err(Full);
         }
-        self.put_back_l2(key, row);
+        self.l2.put(key, row);
+        self.writes = self.writes.next();
         Ok(())
     }
 
@@ -138,7 +139,8 @@ impl HwSwitch for SimChip {
         if self.routes.is_full() {
             return Err(Full);
         }
-        self.put_back_route(key, row);
+        self.routes.put(key, row);
+        self.writes = self.writes.next();
         Ok(())
     }
 
@@ -188,7 +190,7 @@ impl HwSwitch for SimChip {
     }
 
     fn put_back_l2(&mut self, key: L2Key, row: L2Row) {
-        self.l2.put(key, row);
+        self.l2.put_back(key, row);
         self.writes = self.writes.next();
     }
 
@@ -205,7 +207,7 @@ impl HwSwitch for SimChip {
     }
 
     fn put_back_route(&mut self, key: RouteKey, row: RouteRow) {
-        self.routes.put(key, row);
+        self.routes.put_back(key, row);
         self.writes = self.writes.next();
     }
 

@@ -5,7 +5,7 @@ ghost use Rattle.sorted_table.specs.Rows.{IsSorted, first_of};
 ghost use Rattle.sorted_table.specs.Chunks.{AreEmpty, joined, parts};
 
 use crate::chunk::{Chunk, HALF};
-use crate::chunks::place_of;
+use crate::chunks::{place_near, place_of};
 use crate::edits::{add_in, cut_from, set_in};
 use std::alloc::{AllocError as NoMemory, Global};
 use std::marker::Model;
@@ -20,6 +20,8 @@ pub struct SortedTable<K: Ord, V> {
     spare: Vec<Chunk<K, V>>,
     count: usize,
     capacity: u32,
+    // Where the last row was cut, or was put back.
+    near: usize,
 }
 
 impl<K: Ord, V> Model for SortedTable<K, V> {
@@ -50,6 +52,7 @@ impl<K: Ord + Drop, V: Drop> SortedTable<K, V> {
             spare,
             count: 0,
             capacity,
+            near: 0,
         })
     }
 }
@@ -122,6 +125,21 @@ impl<K: Ord + Drop, V: Drop> SortedTable<K, V> {
         add_in(&mut self.chunks, &mut self.spare, place, key, value);
     }
 
+    /// Adds a row as `put` does, and looks for its place first where the last row was cut or put back:
+    /// for rows that come back in the order in which they went, or in the other one.
+    pub fn put_back(&mut self, key: K, value: V)
+        requires absent { at K.cmp key self.old.rows ≡ None }
+        requires room { length self.old.rows < self.old.capacity }
+        ensures rows { self.new.rows ≡ put K.cmp key value self.old.rows }
+        ensures capacity { self.new.capacity ≡ self.old.capacity }
+        ensures sorted { IsSorted K.cmp self.new.capacity self.new.rows }
+    {
+        let place = place_near(self.chunks.as_slice(), self.near, &key);
+        self.near = place;
+        self.count += 1;
+        add_in(&mut self.chunks, &mut self.spare, place, key, value);
+    }
+
     /// Takes away the row under a key that has one.
     pub fn cut(&mut self, key: &K) -> V
         requires { IsSome (at K.cmp key.now self.old.rows) }
@@ -131,6 +149,7 @@ impl<K: Ord + Drop, V: Drop> SortedTable<K, V> {
         ensures sorted { IsSorted K.cmp self.new.capacity self.new.rows }
     {
         let place = place_of(self.chunks.as_slice(), key);
+        self.near = place;
         self.count -= 1;
         cut_from(&mut self.chunks, &mut self.spare, place, key)
     }

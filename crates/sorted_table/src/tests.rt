@@ -84,6 +84,18 @@ fn add_all(table: &mut Numbers, count: u16) -> bool {
     true
 }
 
+/// Puts so many keys back, from the last one on.
+fn put_all_back(table: &mut Numbers, count: u16) -> bool {
+    for n in 0..count {
+        let key = count - 1 - n;
+        if table.get(&key).is_some() || table.is_full() {
+            return false;
+        }
+        table.put_back(key, u64::from(key));
+    }
+    true
+}
+
 /// Takes away those of so many keys that leave this rest by 3.
 fn take_third(table: &mut Numbers, count: u16, rest: u16) -> bool {
     for key in 0..count {
@@ -122,7 +134,7 @@ fn chunks_are_split_and_joined(rt: HostRuntime) -> Result<(), Fail> {
     assert!(rt; take_third(&mut table, 1000, 2));
     are_thirds(&rt, &table, [true, false, false]);
     assert!(rt; take_third(&mut table, 1000, 0));
-    assert!(rt; add_all(&mut table, 1000));
+    assert!(rt; put_all_back(&mut table, 1000));
     are_thirds(&rt, &table, [true, true, true]);
     Ok(())
 }
