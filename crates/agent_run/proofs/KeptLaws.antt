@@ -4,6 +4,7 @@ use Rattle.net_types.specs.declared.table.Caps.{Caps}
 use Rattle.net_types.specs.declared.table.Tables.{Tables}
 use Rattle.chip_core.specs.Chip.{view_of}
 use Rattle.switch_model.specs.declared.act.Submission.{Submission}
+use Rattle.switch_model.specs.declared.act.Update.{Update}
 use Rattle.switch_model.specs.declared.journal.Round.{Round}
 use Rattle.switch_model.specs.declared.reply.Reply.{Reply}
 use Rattle.switch_model.specs.declared.reply.Reply.TheVariants.{HistoryFull}
@@ -17,7 +18,7 @@ use Rattle.agent_run.specs.Solo.{Course, submission, step}
 use Rattle.agent_run.specs.Single.{verdict_on, version_by, single, single_reply, IsPlain, IsCourse}
 use Rattle.agent_run.specs.Kept.{Moment, journal_of, course_now, IsInStep, IsKept, LeadsOn}
 use Rattle.agent_run.proofs.BareLaws.{bare_after}
-use Rattle.agent_run.proofs.JournalLaws.{strip_push, length-strip}
+use Rattle.journal_laws.proofs.RoundLaws.{strip_push, length-strip}
 use Rattle.agent_run.proofs.SettledLaws.{single_state, single_version, single_count, version_by_one}
 use Rattle.agent_run.proofs.SoloLaws.{own_number, step_settles, step_refuses, step_kept}
 
@@ -68,6 +69,10 @@ line_settles limit o old task rounds' replies' course kept plain room more told 
     ∙ ap (λ (n : ℕ). course_at o (old.rounds ++ single m v caps (submission c.sent task) ∷ []) (old.replies ++ (task.line, single_reply m v caps task.update n) ∷ [])) (sym held)
     ∙ ap (λ (l : List Submission). let d : Course = record { sent = l; journal = with_round c.journal (single m v caps (submission c.sent task)); replies = old.replies ++ (task.line, single_reply m v caps task.update (length c.sent)) ∷ [] } in d) (strip_push c.journal (single m v caps (submission c.sent task)))
     ∙ sym (step_settles limit c task m v caps course kept.state_is kept.version_is refl (subst (λ (n : ℕ). n < limit) (sym held) room) plain.apart)
+
+-- the update of a submission under another name
+pub follows_shared : (caps : Caps) (task : Task) (seq : ℕ) (old new : Moment) (update : Update) → update ≡ task.update → Follows caps old new (record { caller = task.caller; seq = seq; update = update }) → Follows caps old new (record { caller = task.caller; seq = seq; update = task.update })
+follows_shared caps task seq old new update is follows = subst (λ (u : Update). let s : Submission = record { caller = task.caller; seq = seq; update = u } in Follows caps old new s) is follows
 
 -- an update that is settled leads on
 pub settles_on : (limit : ℕ) (caps : Caps) (task : Task) (old new : Moment) → IsPlain task → old.settled < limit → Follows caps old new (record { caller = task.caller; seq = old.settled; update = task.update }) → new.replies ≡ old.replies ++ (task.line, single_reply old.state old.version caps task.update old.settled) ∷ [] → LeadsOn limit caps task old new

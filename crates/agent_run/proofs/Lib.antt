@@ -2,13 +2,11 @@ mod BareLaws
 mod Counting
 mod FlipLaws
 mod IndexLaws
-mod JournalLaws
 mod GroundLaws
 mod KeptLaws
 mod LoadLaws
 mod Marking
 mod PlanLaws
-mod ReachedLaws
 mod ReportLaws
 mod RowLaws
 mod SettledLaws

@@ -10,7 +10,7 @@ use Rattle.switch_model.specs.PlainState.{PlainState, empty}
 use Rattle.net_types.specs.Capacity.{Fits}
 use Rattle.switch_model.specs.Rows.{rows}
 use Rattle.switch_model.specs.Journal.{strip}
-use Rattle.switch_model.specs.Reached.{Reached}
+use Rattle.switch_model.specs.MayComeOf.{MayComeOf}
 use Rattle.report_text.specs.Report.{report_of}
 use Rattle.script_text.specs.declared.script.Script.{Script}
 use Rattle.script_text.specs.declared.script.Start.TheVariants.{Cold}
@@ -43,7 +43,7 @@ is_report base plan caps later now raw tables text fits plain same course stays 
       tables,
       record {
         run = sym run;
-        reached = subst (λ (c : Course). Reached (strip c.journal) c.journal) (sym run) (course_kept base plan fits_here plain).reached;
+        reached = subst (λ (c : Course). MayComeOf (strip c.journal) c.journal) (sym run) (course_kept base plan fits_here plain).reached;
         told = subst (λ (c : Course). Told plan c.journal c.replies) (sym run) (course_told base plan fits_here plain);
         chip = subst (IsChip plan.caps) (sym copied) (subst (λ (k : Caps). IsChip k raw) (stays ∙ same) chip);
         in_step = ap view_of copied ∙ in_step ∙ ap rows kept_here.state_is;

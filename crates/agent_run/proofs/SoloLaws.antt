@@ -14,14 +14,17 @@ use Rattle.switch_model.specs.declared.reply.Reply.{Reply}
 use Rattle.switch_model.specs.PlainState.{PlainState}
 use Rattle.switch_model.specs.Rows.{rows}
 use Rattle.net_types.specs.Capacity.{Fits}
-use Rattle.switch_model.specs.Journal.{Opening, Journal, entries, fold, version_of, own, strip, with_round}
+use Rattle.switch_model.specs.Journal.{Opening, Journal, entries, fold, version_of, own, pending, strip, with_round}
 use Rattle.switch_model.specs.Round.{run, next_round}
-use Rattle.switch_model.specs.Reached.{Reached, SettlesNext, AllSettleNext}
-use Rattle.agent_run.specs.Solo.{Course, pending, submission, submit, refuse, reply_of, reply_at, step, solo, cold, started, course_of}
+use Rattle.switch_model.specs.MayComeOf.{MayComeOf, SettlesNext}
+use Rattle.agent_run.specs.Solo.{Course, submission, submit, refuse, reply_of, reply_at, step, solo, cold, started, course_of}
 use Rattle.agent_run.specs.Single.{single, with_single, IsPlain, IsCourse}
-use Rattle.agent_run.proofs.JournalLaws.{entries_push, fold_push, strip_push, length-strip, slice_get_seam}
-use Rattle.agent_run.proofs.SettledLaws.{run_single, settled_single, single_right, single_fits}
-use Rattle.agent_run.proofs.ReachedLaws.{legal_push, all_settle_grow, all_settle_push}
+use Rattle.journal_laws.proofs.MayComeLaws.{may_come_grow, may_come_round, may_come_start, settles_next}
+use Rattle.journal_laws.proofs.RoundLaws.{entries_push, fold_push, strip_push, length-strip}
+use Rattle.journal_laws.proofs.RunLaws.{run_single}
+use Rattle.keyed.specs.ListLaws.{slice_get_seam}
+use Rattle.keyed.specs.Prefix.{IsPrefix, prefix_self}
+use Rattle.agent_run.proofs.SettledLaws.{settled_single, single_fits}
 
 -- the round that comes next, where nothing but that submission is pending
 abbrev next_single : Journal → Submission → Round
@@ -34,10 +37,10 @@ settled_length : (sent : List Submission) (j : Journal) → sent ≡ strip j →
 settled_length sent j e = ap length e ∙ length-strip j
 
 -- the round of what is pending, where all but that submission is settled
-pub next_round_single : (sent : List Submission) (j : Journal) (s : Submission) → sent ≡ strip j → s.update.alone ≡ false → Fits (rows (fold j)) j.opening.caps → next_round j (run (pending (sent ++ s ∷ []) j)) ≡ next_single j s
-next_round_single sent j s all apart fits =
+pub next_round_single : (sent : List Submission) (j : Journal) (s : Submission) → sent ≡ strip j → Fits (rows (fold j)) j.opening.caps → next_round j (run (pending (sent ++ s ∷ []) j)) ≡ next_single j s
+next_round_single sent j s all fits =
     ap (λ (q : List Submission). next_round j (run q)) (pending_one sent s (length (entries j)) (settled_length sent j all))
-    ∙ ap (next_round j) (run_single s apart)
+    ∙ ap (next_round j) (run_single s)
     ∙ settled_single (fold j) (version_of j) j.opening.caps s fits
 
 -- the reply on the only entry of the last round
@@ -51,17 +54,17 @@ reply_at_push j r e k is at =
     ∙ ap (reply_of k (k + 1)) there
 
 -- the course after a line within the limit
-submit_single : (c : Course) (task : Task) → c.sent ≡ strip c.journal → Fits (rows (fold c.journal)) c.journal.opening.caps → task.update.alone ≡ false → submit c task ≡ with_single (fold c.journal) (version_of c.journal) c.journal.opening.caps c task
-submit_single c task all fits apart =
+submit_single : (c : Course) (task : Task) → c.sent ≡ strip c.journal → Fits (rows (fold c.journal)) c.journal.opening.caps → submit c task ≡ with_single (fold c.journal) (version_of c.journal) c.journal.opening.caps c task
+submit_single c task all fits =
     let s = submission c.sent task in
-    ap (λ (r : Round). let j = with_round c.journal r in let after : Course = record { sent = c.sent ++ s ∷ []; journal = j; replies = c.replies ++ (task.line, reply_at j (length c.sent)) ∷ [] } in after) (next_round_single c.sent c.journal s all apart fits)
+    ap (λ (r : Round). let j = with_round c.journal r in let after : Course = record { sent = c.sent ++ s ∷ []; journal = j; replies = c.replies ++ (task.line, reply_at j (length c.sent)) ∷ [] } in after) (next_round_single c.sent c.journal s all fits)
     ∙ ap (λ (r : Reply). let after : Course = record { sent = c.sent ++ s ∷ []; journal = with_round c.journal (next_single c.journal s); replies = c.replies ++ (task.line, r) ∷ [] } in after) (reply_at_push c.journal (next_single c.journal s) _ (length c.sent) refl (settled_length c.sent c.journal all))
 
 -- a line within the limit is settled by itself: m, v and caps are the state, the version and the capacities that a run holds
 pub step_settles : (limit : ℕ) (c : Course) (task : Task) (m : PlainState) (v : ℕ) (caps : Caps) → IsCourse limit c → m ≡ fold c.journal → v ≡ version_of c.journal → caps ≡ c.journal.opening.caps → length c.sent < limit → task.update.alone ≡ false → step limit c task ≡ with_single m v caps c task
 step_settles limit c task m v caps kept is_state is_version are_caps room apart =
     cond-true (nat_lt (length c.sent) limit) (submit c task) (refuse c task) (lt-ltb (length c.sent) limit room)
-    ∙ submit_single c task kept.settled kept.fits apart
+    ∙ submit_single c task kept.settled kept.fits
     ∙ ap (λ (n : PlainState). with_single n (version_of c.journal) c.journal.opening.caps c task) (sym is_state)
     ∙ ap (λ (w : ℕ). with_single m w c.journal.opening.caps c task) (sym is_version)
     ∙ ap (λ (k : Caps). with_single m v k c task) (sym are_caps)
@@ -80,22 +83,19 @@ own_push sent s mine is =
     ∙ ap (λ (l : List Submission). l ++ own 0 (s ∷ [])) mine
     ∙ ap (λ (l : List Submission). sent ++ l) (cond-true (s.caller == 0) (s ∷ []) [] (eq-eqb s.caller 0 is))
 
-settles_one : (sent : List Submission) (j : Journal) (s : Submission) (r : Round) → length sent ≡ length (entries j) → next_round j (run (s ∷ [])) ≡ r → SettlesNext (sent ++ s ∷ []) j r
-settles_one sent j s r at is =
-    let p = sym (pending_one sent s (length (entries j)) at) in
-    (1, lit≤ tt, lit≤ tt, subst (λ (q : List Submission). 1 ≤ length q) p (lit≤ tt), subst (λ (q : List Submission). r ≡ next_round j (run (take 1 q))) p (sym is))
-
 -- one more submission, settled by itself
-reached_push : (j : Journal) (s : Submission) → Reached (strip j) j → Fits (rows (fold j)) j.opening.caps → s.update.alone ≡ false → Reached (strip (with_round j (next_single j s))) (with_round j (next_single j s))
-reached_push j s old fits apart =
+settles_single : (j : Journal) (s : Submission) → Fits (rows (fold j)) j.opening.caps → SettlesNext (strip j ++ s ∷ []) j (next_single j s)
+settles_single j s fits =
+    let sent : List Submission = strip j ++ s ∷ [] in
+    let left : IsPrefix (s ∷ []) (pending sent j) = subst (λ (q : List Submission). IsPrefix (s ∷ []) q) (sym (pending_one (strip j) s (length (entries j)) (length-strip j))) (prefix_self (s ∷ [])) in
+    let is : next_round j (run (s ∷ [])) ≡ next_single j s = ap (next_round j) (run_single s) ∙ settled_single (fold j) (version_of j) j.opening.caps s fits in
+    subst (λ (r : Round). SettlesNext sent j r) is (settles_next sent j (s ∷ []) left (lit≤ tt))
+
+reached_push : (j : Journal) (s : Submission) → MayComeOf (strip j) j → Fits (rows (fold j)) j.opening.caps → MayComeOf (strip (with_round j (next_single j s))) (with_round j (next_single j s))
+reached_push j s old fits =
     let r = next_single j s in
-    let next : SettlesNext (strip j ++ s ∷ []) j r = settles_one (strip j) j s r (length-strip j) (ap (next_round j) (run_single s apart) ∙ settled_single (fold j) (version_of j) j.opening.caps s fits) in
-    let rounds : AllSettleNext (strip j ++ s ∷ []) (record j { rounds = [] }) (j.rounds ++ r ∷ []) = all_settle_push (strip j ++ s ∷ []) (record j { rounds = [] }) j.rounds r (all_settle_grow (strip j) (s ∷ []) (record j { rounds = [] }) j.rounds old.rounds) next in
-    record {
-      legal = legal_push j r old.legal (single_right (fold j) (version_of j) j.opening.caps s apart fits);
-      settled = ([], sym (append-nil (strip (with_round j r))));
-      rounds = subst (λ (l : List Submission). AllSettleNext l (record j { rounds = [] }) (j.rounds ++ r ∷ [])) (sym (strip_push j r)) rounds;
-    }
+    let sent : List Submission = strip j ++ s ∷ [] in
+    subst (λ (l : List Submission). MayComeOf l (with_round j r)) (sym (strip_push j r)) (may_come_round sent j r (may_come_grow (strip j) (s ∷ []) j old) (settles_single j s fits))
 
 -- the course after it is one too
 pub single_kept : (limit : ℕ) (c : Course) (task : Task) → IsCourse limit c → IsPlain task → length c.sent < limit → IsCourse limit (with_single (fold c.journal) (version_of c.journal) c.journal.opening.caps c task)
@@ -104,7 +104,7 @@ single_kept limit c task kept plain room =
     record {
       settled = ap (λ (l : List Submission). l ++ s ∷ []) kept.settled ∙ sym (strip_push c.journal (next_single c.journal s));
       own = own_push c.sent s kept.own plain.caller;
-      reached = reached_push c.journal s kept.reached kept.fits plain.apart;
+      reached = reached_push c.journal s kept.reached kept.fits;
       fits = subst (λ (m : PlainState). Fits (rows m) c.journal.opening.caps) (sym (fold_push c.journal (next_single c.journal s))) (single_fits (fold c.journal) (version_of c.journal) c.journal.opening.caps s kept.fits);
       within = omega (arith, length_push c.sent s, room);
     }
@@ -124,7 +124,7 @@ solo_kept limit c (task ∷ tasks) kept plain = solo_kept limit (step limit c ta
 
 -- nothing has been submitted yet
 pub started_kept : (limit : ℕ) (o : Opening) → Fits (rows o.state) o.caps → IsCourse limit (started o)
-started_kept limit o fits = record { settled = refl; own = refl; reached = record { legal = (fits, tt); settled = ([], refl); rounds = tt }; fits = fits; within = omega arith }
+started_kept limit o fits = record { settled = refl; own = refl; reached = may_come_start o [] fits; fits = fits; within = omega arith }
 
 -- the run of updates of caller 0 after a base whose rows fit
 pub course_kept : (base : PlainState) (plan : Plan) → Fits (rows base) plan.caps → AllByRecursion IsPlain plan.tasks → IsCourse plan.limit (course_of base plan)

@@ -11,16 +11,17 @@ use Rattle.switch_model.specs.declared.journal.Entry.{Entry}
 use Rattle.switch_model.specs.declared.journal.Round.{Round}
 use Rattle.switch_model.specs.declared.reply.Reply.{Reply}
 use Rattle.switch_model.specs.declared.reply.Reply.TheVariants.{HistoryFull}
-use Rattle.switch_model.specs.Journal.{Journal, entries, entries_of, fold, version_of, own, with_round}
+use Rattle.switch_model.specs.Journal.{Journal, IsRoundEnd, entries, entries_of, fold, version_of, own, with_round}
 use Rattle.switch_model.specs.Round.{entry_of}
 use Rattle.switch_model.specs.PlainState.{PlainState}
 use Rattle.switch_model.specs.Rows.{rows}
 use Rattle.net_types.specs.Capacity.{Fits}
-use Rattle.switch_model.specs.Journal.{IsFront}
+use Rattle.keyed.specs.ListLaws.{slice_get_seam}
+use Rattle.keyed.specs.Prefix.{IsPrefix, prefix_self, prefix_trans}
 use Rattle.agent_run.specs.Solo.{Course, submission, submit, refuse, step, solo, cold, started, course_of}
 use Rattle.agent_run.specs.Single.{verdict_on, version_by, single_reply, with_single, IsPlain, IsCourse}
-use Rattle.agent_run.specs.Told.{IsRoundEnd, IsSettledAt, IsTold, AreTold, taken, Told}
-use Rattle.agent_run.proofs.JournalLaws.{entries_of-append, entries_push, length-strip, slice_get_seam}
+use Rattle.agent_run.specs.Told.{IsSettledAt, IsTold, AreTold, taken, Told}
+use Rattle.journal_laws.proofs.RoundLaws.{entries_of-append, entries_push, length-strip}
 use Rattle.agent_run.proofs.SoloLaws.{own_number, step_settles, step_refuses, single_kept, refuse_kept, step_kept, course_kept, started_kept}
 
 -- the course, the entry and the reply where there is room
@@ -90,20 +91,17 @@ solo_replies limit c (task ∷ tasks) kept plain =
     ∙ append_assoc c.replies (answer limit c task ∷ []) rest
 
 -- rounds are only added, at the end
-front_trans : (a b c : List Round) → IsFront a b → IsFront b c → IsFront a c
-front_trans a b c f g = (f.0 ++ g.0, g.1 ∙ ap (λ (l : List Round). l ++ g.0) f.1 ∙ append_assoc a f.0 g.0)
+step_begins : (limit : ℕ) (c : Course) (task : Task) → IsPrefix c.journal.rounds (step limit c task).journal.rounds
+step_begins limit c task =
+    cond_both (nat_lt (length c.sent) limit) (submit c task) (refuse c task) (λ d. IsPrefix c.journal.rounds d.journal.rounds) (λ _. (_, refl)) (λ _. prefix_self c.journal.rounds)
 
-step_front : (limit : ℕ) (c : Course) (task : Task) → IsFront c.journal.rounds (step limit c task).journal.rounds
-step_front limit c task =
-    cond_both (nat_lt (length c.sent) limit) (submit c task) (refuse c task) (λ d. IsFront c.journal.rounds d.journal.rounds) (λ _. (_, refl)) (λ _. ([], sym (append-nil c.journal.rounds)))
-
-solo_front : (limit : ℕ) (c : Course) (tasks : List Task) → IsFront c.journal.rounds (solo limit c tasks).journal.rounds
-solo_front limit c [] = ([], sym (append-nil c.journal.rounds))
-solo_front limit c (task ∷ tasks) =
-    front_trans c.journal.rounds (step limit c task).journal.rounds (solo limit (step limit c task) tasks).journal.rounds (step_front limit c task) (solo_front limit (step limit c task) tasks)
+solo_begins : (limit : ℕ) (c : Course) (tasks : List Task) → IsPrefix c.journal.rounds (solo limit c tasks).journal.rounds
+solo_begins limit c [] = prefix_self c.journal.rounds
+solo_begins limit c (task ∷ tasks) =
+    prefix_trans c.journal.rounds (step limit c task).journal.rounds (solo limit (step limit c task) tasks).journal.rounds (step_begins limit c task) (solo_begins limit (step limit c task) tasks)
 
 -- an entry stays where it was settled
-there_stays : (j all : Journal) (r : Round) (e : Entry) (k : ℕ) → r.entries ≡ e ∷ [] → k ≡ length (entries j) → IsFront (with_round j r).rounds all.rounds → slice_get (entries all) k ≡ Some e
+there_stays : (j all : Journal) (r : Round) (e : Entry) (k : ℕ) → r.entries ≡ e ∷ [] → k ≡ length (entries j) → IsPrefix (with_round j r).rounds all.rounds → slice_get (entries all) k ≡ Some e
 there_stays j all r e k is at front =
     let rest = entries_of front.0 in
     let held : entries all ≡ entries j ++ (e ∷ rest) = ap entries_of front.1 ∙ entries_of-append (with_round j r).rounds front.0 ∙ ap (λ (es : List Entry). es ++ rest) (entries_push j r ∙ ap (λ (es : List Entry). entries j ++ es) is) ∙ append_assoc (entries j) (e ∷ []) rest in
@@ -111,11 +109,11 @@ there_stays j all r e k is at front =
     ∙ ap (λ (n : ℕ). slice_get (entries j ++ (e ∷ rest)) n) at
     ∙ slice_get_seam (entries j) e rest
 
-round_end : (j all : Journal) (r : Round) (e : Entry) (k : ℕ) → r.entries ≡ e ∷ [] → k ≡ length (entries j) → IsFront (with_round j r).rounds all.rounds → IsRoundEnd all (k + 1)
+round_end : (j all : Journal) (r : Round) (e : Entry) (k : ℕ) → r.entries ≡ e ∷ [] → k ≡ length (entries j) → IsPrefix (with_round j r).rounds all.rounds → IsRoundEnd all (k + 1)
 round_end j all r e k is at front =
     ((with_round j r).rounds, front, ap (λ (n : ℕ). n + 1) at ∙ sym (length_push (entries j) e) ∙ sym (ap length (entries_push j r ∙ ap (λ (es : List Entry). entries j ++ es) is)))
 
-told_settled : (limit : ℕ) (c : Course) (task : Task) (all : Journal) (seq before : ℕ) → IsCourse limit c → IsPlain task → seq ≡ length c.sent → before ≤ length c.sent → IsFront (settled_course c task).journal.rounds all.rounds → IsTold limit all task seq before (settled_reply c task).1
+told_settled : (limit : ℕ) (c : Course) (task : Task) (all : Journal) (seq before : ℕ) → IsCourse limit c → IsPlain task → seq ≡ length c.sent → before ≤ length c.sent → IsPrefix (settled_course c task).journal.rounds all.rounds → IsTold limit all task seq before (settled_reply c task).1
 told_settled limit c task all seq before kept plain number seen front =
     let at : length c.sent ≡ length (entries c.journal) = ap length kept.settled ∙ length-strip c.journal in
     let there : IsSettledAt all task seq (length c.sent) (settled_entry c task) = record { there = there_stays c.journal all _ _ (length c.sent) refl at front; caller = refl; seq_is = own_number c.sent task kept.own plain.caller ∙ sym number; update = refl } in
@@ -148,7 +146,7 @@ told_from limit c (task ∷ tasks) seq before kept plain number seen = elim (ste
       let after = settled_course c task in
       let longer : length after.sent ≡ length c.sent + 1 = length_push c.sent (submission c.sent task) in
       subst₂ (λ (d : Course) (a : ℕ × Reply). AreTold limit (solo limit d tasks).journal seq before (task ∷ tasks) (a ∷ answers limit d tasks)) (sym s.course) (sym s.reply)
-      (refl, told_settled limit c task (solo limit after tasks).journal seq before kept plain.0 number seen (solo_front limit after tasks), tt, told_from limit after tasks (seq + 1) (length c.sent + 1) (single_kept limit c task kept plain.0 s.room) plain.1 (omega (arith, longer, number)) (omega (arith, longer)))
+      (refl, told_settled limit c task (solo limit after tasks).journal seq before kept plain.0 number seen (solo_begins limit after tasks), tt, told_from limit after tasks (seq + 1) (length c.sent + 1) (single_kept limit c task kept plain.0 s.room) plain.1 (omega (arith, longer, number)) (omega (arith, longer)))
   | inr s ↦
       subst₂ (λ (d : Course) (a : ℕ × Reply). AreTold limit (solo limit d tasks).journal seq before (task ∷ tasks) (a ∷ answers limit d tasks)) (sym s.course) (sym s.reply)
       (refl, full_length limit c task tasks kept s.full, all_refused limit (refuse c task) tasks s.full, told_from limit (refuse c task) tasks seq before (refuse_kept limit c task kept) plain.1 number seen)

@@ -4,7 +4,7 @@ use Rattle.std.specs.Cmp.Lexicographic.{pointwise}
 use Rattle.std.proofs.lemmas.Bool.Decides.{Decides-eqb}
 use Rattle.std.proofs.lemmas.Slice.Eq.{slice_eq-Decides}
 use Rattle.std.specs.Io.KnownBytes.{Appends}
-use Rattle.io_edge.specs.Causes.{Rose, HasCause, WholeInput, ReadsFront, AppendsFront, Writes}
+use Rattle.io_edge.specs.Causes.{Rose, HasCause, WholeInput, ReadsPrefix, AppendsPrefix, Writes}
 use Rattle.agent_run.specs.declared.status.Status.{Status}
 use Rattle.agent_run.specs.declared.status.Status.TheVariants as status
 use Rattle.agent_run.specs.declared.refusal.Refusal.{Refusal}
@@ -12,7 +12,7 @@ use Rattle.agent_run.specs.declared.refusal.Refusal.TheVariants.{Byte, Word, Not
 use Rattle.agent_run.specs.declared.refusal.RunFault.{RunFault}
 use Rattle.agent_run.specs.declared.refusal.RunFault.TheVariants as run
 use Rattle.agent_run.specs.Refusal.{refusal_line, status_of}
-use Rattle.agent_run.specs.Top.{Outside, Served, Answered, Declined, Reported, CutShort, Refused, IsRefused, IsRunnable, OrNoMemory, WritesNothing, IsRunCommand, ReadsAll, IsComplete, longest_script}
+use Rattle.agent_run.specs.Top.{Outside, Served, Answered, Declined, Reported, CutShort, Refused, IsRefused, IsRunnable, OrNoMemory, WritesNothing, IsRunCommand, ReadsAll, IsComplete, SinkStands, longest_script}
 
 pub one_word : {S : Type 0} (bytes : S → List ℕ) (xs : List S) (x : S) (text word : List ℕ) (r : Bool) → length xs ≡ 1 → x ≡ get_or xs 0 x → text ≡ bytes x → r ≡ pointwise eqb text word → Decides r (map bytes xs ≡ word ∷ [])
 one_word bytes [] x text word r one at is test = absurd (omega arith)
@@ -30,12 +30,12 @@ whole_is (Some xs) (Some ys) input all whole is =
     sym (whole.all ∙ ap (λ (l : List ℕ). input ++ l) whole.end ∙ append-nil input) ∙ same
 
 -- no more can be read than was left
-front_within : (left rest : Option (List ℕ)) (count : ℕ) (all : List ℕ) → ReadsFront left rest count → left ≡ Some all → count ≤ length all
-front_within None rest count all front is = absurd (cc)
-front_within (Some xs) None count all front is = absurd front.bytes
-front_within (Some xs) (Some ys) count all front is =
+prefix_within : (left rest : Option (List ℕ)) (count : ℕ) (all : List ℕ) → ReadsPrefix left rest count → left ≡ Some all → count ≤ length all
+prefix_within None rest count all part is = absurd (cc)
+prefix_within (Some xs) None count all part is = absurd part.bytes
+prefix_within (Some xs) (Some ys) count all part is =
     let same : xs ≡ all = cc in
-    omega (arith, front.counted, length-append front.front ys, ap length front.bytes, ap length same)
+    omega (arith, part.counted, length-append part.prefix ys, ap length part.bytes, ap length same)
 
 -- what can be run isn't refused
 no_refusal : (answer : Status) (words : List (List ℕ)) (old new : Outside) (input : List ℕ) → Refused answer old.left new.left old.written new.written old.write_faults new.write_faults → old.left ≡ Some input → IsRunnable input → ⊥
@@ -50,7 +50,7 @@ served_complete words old new status.WriteFault served = λ input is_run left wi
 served_complete words old new status.Script served = λ input is_run left within is no_read no_write. absurd (no_refusal status.Script words old new input served.1 left is)
 served_complete words old new status.OpeningFull served = λ input is_run left within is no_read no_write. absurd (no_refusal status.OpeningFull words old new input served.1 left is)
 served_complete words old new status.TooLong served = λ input is_run left within is no_read no_write.
-    absurd (omega (arith, within, front_within old.left new.left (longest_script + 1) input served.1 left))
+    absurd (omega (arith, within, prefix_within old.left new.left (longest_script + 1) input served.1 left))
 
 pub served_done : (words : List (List ℕ)) (old new : Outside) (answer : Status) → Served words old new answer → answer ≡ status.Done → Reported old.left new.left old.written new.written
 served_done words old new answer served is = (subst (Served words old new) is served).1
@@ -80,7 +80,7 @@ served_read_fault words old new answer served is = (subst (Served words old new)
 pub served_write_fault : (words : List (List ℕ)) (old new : Outside) (answer : Status) → Served words old new answer → answer ≡ status.WriteFault → Rose old.write_faults new.write_faults × CutShort old.left new.left old.written new.written
 served_write_fault words old new answer served is = let it = subst (Served words old new) is served in (it.1, it.2)
 
-pub served_too_long : (words : List (List ℕ)) (old new : Outside) (answer : Status) → Served words old new answer → answer ≡ status.TooLong → ReadsFront old.left new.left (longest_script + 1)
+pub served_too_long : (words : List (List ℕ)) (old new : Outside) (answer : Status) → Served words old new answer → answer ≡ status.TooLong → ReadsPrefix old.left new.left (longest_script + 1)
 served_too_long words old new answer served is = (subst (Served words old new) is served).1
 
 pub served_nothing : (words : List (List ℕ)) (old new : Outside) (answer : Status) → Served words old new answer → WritesNothing answer old.written new.written
@@ -105,9 +105,9 @@ served_answer words input old new status.ReadFault is_run all done = absurd done
 served_answer words input old new status.TooLong is_run all done = absurd done
 
 -- a line that was to be written
-pub writes_line : {A E : Type 0} (r : Result A E) (old new : Option (List ℕ)) (before now : ℕ) (text : List ℕ) → OnOk r (Appends old new text) → OnErr r (AppendsFront old new text) → HasCause before now r → Writes old new before now text
-writes_line (Ok x) old new before now text all front cause = inl all
-writes_line (Err e) old new before now text all front cause = inr (front, cause.failed)
+pub writes_line : {A E : Type 0} (r : Result A E) (old new : Option (List ℕ)) (before now : ℕ) (text : List ℕ) → OnOk r (Appends old new text) → OnErr r (AppendsPrefix old new text) → HasCause before now r → Writes old new before now text
+writes_line (Ok x) old new before now text all part cause = inl (all, cause.quiet)
+writes_line (Err e) old new before now text all part cause = inr (part, cause.failed)
 
 -- a refusal has one of two statuses
 abbrev IsRefusing : Status → Type 0
@@ -125,10 +125,18 @@ one_of_two (Opening table) = tt
 refusing : (refusal : Refusal) (answer : Status) → answer ≡ status_of refusal → IsRefusing answer
 refusing refusal answer is = subst IsRefusing (sym is) (one_of_two refusal)
 
+-- an error line may be cut short
+pub error_stands : (refusal : Refusal) (before now : ℕ) → SinkStands (status_of refusal) before now
+error_stands (Byte line) before now = tt
+error_stands (Word line word) before now = tt
+error_stands NotBuilt before now = tt
+error_stands (Base line reason) before now = tt
+error_stands (Opening table) before now = tt
+
 -- an error line that was to be written
-pub declined : {A E : Type 0} (r : Result A E) (old new : Option (List ℕ)) (before now : ℕ) (refusal : Refusal) (line : List ℕ) (answer : Status) → line ≡ refusal_line refusal → answer ≡ status_of refusal → OnOk r (Appends old new line) → OnErr r (AppendsFront old new line) → HasCause before now r → Declined refusal old new before now answer
-declined r old new before now refusal line answer line_is answer_is all front cause =
-    let written : Writes old new before now (refusal_line refusal) = subst (Writes old new before now) line_is (writes_line r old new before now line all front cause) in
+pub declined : {A E : Type 0} (r : Result A E) (old new : Option (List ℕ)) (before now : ℕ) (refusal : Refusal) (line : List ℕ) (answer : Status) → line ≡ refusal_line refusal → answer ≡ status_of refusal → OnOk r (Appends old new line) → OnErr r (AppendsPrefix old new line) → HasCause before now r → Declined refusal old new before now answer
+declined r old new before now refusal line answer line_is answer_is all part cause =
+    let written : Writes old new before now (refusal_line refusal) = subst (Writes old new before now) line_is (writes_line r old new before now line all part cause) in
     told answer answer_is written
   where
     told : (answer : Status) → answer ≡ status_of refusal → Writes old new before now (refusal_line refusal) → Declined refusal old new before now answer

@@ -18,8 +18,8 @@ use Rattle.switch_model.specs.Effect.{effect}
 use Rattle.switch_model.specs.Rows.{rows}
 use Rattle.net_types.specs.Capacity.{over, Fits}
 use Rattle.switch_model.specs.Journal.{fold, own, strip, with_round}
-use Rattle.switch_model.specs.Round.{tried, next_version, entry_of}
-use Rattle.switch_model.specs.Reached.{Reached}
+use Rattle.switch_model.specs.Round.{verdict_alone, next_version, entry_of}
+use Rattle.switch_model.specs.MayComeOf.{MayComeOf}
 use Rattle.agent_run.specs.Solo.{Course, submission}
 
 -- a run of one update is settled whole, except where a table is full
@@ -30,7 +30,7 @@ kind_of (Full t) = One
 
 -- the verdict on an update by itself
 abbrev pub verdict_on : PlainState → Caps → Update → Verdict
-verdict_on m caps update = tried (reason m update) (over (rows (effect m update.act)) caps)
+verdict_on m caps update = verdict_alone (reason m update) (over (rows (effect m update.act)) caps)
 
 -- the version after one update with that verdict
 abbrev pub version_by : ℕ → Verdict → ℕ
@@ -58,7 +58,7 @@ with_single m v caps c task =
 pub record IsCourse (limit : ℕ) (c : Course) : Type 0 where
   pub settled : c.sent ≡ strip c.journal
   pub own : own 0 c.sent ≡ c.sent
-  pub reached : Reached (strip c.journal) c.journal
+  pub reached : MayComeOf (strip c.journal) c.journal
   pub fits : Fits (rows (fold c.journal)) c.journal.opening.caps
   pub within : length c.sent ≤ limit
 

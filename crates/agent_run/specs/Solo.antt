@@ -1,12 +1,12 @@
 -- The run of one caller's updates.
-use Rattle.std.specs.Prelude.{ℕ, nat_lt, Option, None, Some, List, [], ◌∷◌, ◌++◌, length, drop, slice_get, if◌then◌else◌}
+use Rattle.std.specs.Prelude.{ℕ, nat_lt, Option, None, Some, List, [], ◌∷◌, ◌++◌, length, slice_get, if◌then◌else◌}
 use Rattle.net_types.specs.declared.table.Caps.{Caps}
 use Rattle.switch_model.specs.declared.act.Submission.{Submission}
 use Rattle.switch_model.specs.declared.journal.Entry.{Entry}
 use Rattle.switch_model.specs.declared.reply.Reply.{Reply}
 use Rattle.switch_model.specs.declared.reply.Reply.TheVariants.{Settled, HistoryFull}
 use Rattle.switch_model.specs.PlainState.{PlainState}
-use Rattle.switch_model.specs.Journal.{Opening, Journal, entries, own, with_round}
+use Rattle.switch_model.specs.Journal.{Opening, Journal, entries, own, pending, with_round}
 use Rattle.switch_model.specs.Round.{run, next_round}
 use Rattle.agent_run.specs.declared.plan.Plan.{Plan}
 use Rattle.agent_run.specs.declared.plan.Task.{Task}
@@ -24,10 +24,6 @@ cold caps base = record { state = base; version = 0; caps = caps }
 -- nothing was submitted yet
 abbrev pub started : Opening → Course
 started opening = record { sent = []; journal = record { opening = opening; rounds = [] }; replies = [] }
-
--- the submissions that no round has settled yet
-abbrev pub pending : List Submission → Journal → List Submission
-pending sent j = drop (length (entries j)) sent
 
 -- the update, under its caller's next number
 abbrev pub submission : List Submission → Task → Submission

@@ -5,15 +5,9 @@ use Rattle.agent_run.specs.declared.plan.Task.{Task}
 use Rattle.agent_run.specs.declared.plan.Plan.{Plan}
 use Rattle.switch_model.specs.declared.act.Update.{Update}
 use Rattle.switch_model.specs.declared.journal.Entry.{Entry}
-use Rattle.switch_model.specs.declared.journal.Round.{Round}
 use Rattle.switch_model.specs.declared.reply.Reply.{Reply}
 use Rattle.switch_model.specs.declared.reply.Reply.TheVariants.{Settled, HistoryFull}
-use Rattle.switch_model.specs.Journal.{Journal, entries, entries_of, own, strip}
-use Rattle.switch_model.specs.Journal.{IsFront}
-
--- that many entries are the journal up to the end of a round, or none
-abbrev pub IsRoundEnd : Journal → ℕ → Type 0
-IsRoundEnd j front = (rounds : List Round) × IsFront rounds j.rounds × (front ≡ length (entries_of rounds))
+use Rattle.switch_model.specs.Journal.{Journal, IsRoundEnd, entries, own, strip}
 
 -- the entry at that place of the journal is the line's own update, with this verdict and version
 pub record IsSettledAt (j : Journal) (task : Task) (seq position : ℕ) (entry : Entry) : Type 0 where

@@ -1,7 +1,7 @@
 -- What the program as one call answers, and why.
 use Rattle.std.specs.Prelude.{ℕ, ◌≡◌, ◌≤◌, ◌+◌, ◌⊎◌, false, List, [], ◌∷◌, length, Option, Some, codes}
 use Rattle.std.specs.Io.KnownBytes.{Appends}
-use Rattle.io_edge.specs.Causes.{Rose, WholeInput, ReadsFront, AppendsFront, Writes}
+use Rattle.io_edge.specs.Causes.{Rose, WholeInput, ReadsPrefix, AppendsPrefix, Writes}
 use Rattle.net_types.specs.declared.table.Caps.{Caps}
 use Rattle.net_types.specs.declared.table.Tables.{Tables}
 use Rattle.chip_core.specs.Chip.{IsChip, view_of}
@@ -10,7 +10,7 @@ use Rattle.switch_model.specs.PlainState.{PlainState, empty}
 use Rattle.net_types.specs.Capacity.{over, Fits}
 use Rattle.switch_model.specs.Rows.{rows}
 use Rattle.switch_model.specs.Journal.{Journal, fold, strip}
-use Rattle.switch_model.specs.Reached.{Reached}
+use Rattle.switch_model.specs.MayComeOf.{MayComeOf}
 use Rattle.script_words.specs.Lines.{lines}
 use Rattle.script_text.specs.declared.fault.ScriptFault.TheVariants as faults
 use Rattle.script_text.specs.declared.script.Script.{Script}
@@ -34,7 +34,7 @@ use Rattle.agent_run.specs.Told.{Told}
 pub record Reports (base : PlainState) (plan : Plan) (j : Journal) (replies : List (ℕ × Reply)) (tables : Tables) (text : List ℕ) : Type 0 where
   -- journal and replies are those of the updates, taken in their order
   pub run : course_of base plan ≡ record { sent = strip j; journal = j; replies = replies }
-  pub reached : Reached (strip j) j
+  pub reached : MayComeOf (strip j) j
   pub told : Told plan j replies
   -- the tables are a chip's of the script's capacities, and their rows are those of the last state
   pub chip : IsChip plan.caps tables
@@ -94,15 +94,15 @@ ReadsAll left rest input = WholeInput left rest input × (length input ≤ longe
 abbrev pub Reported : Option (List ℕ) → Option (List ℕ) → Option (List ℕ) → Option (List ℕ) → Type 0
 Reported left rest old new = (input : List ℕ) × (text : List ℕ) × ReadsAll left rest input × IsReportOf input text × Appends old new text
 
--- the whole input is a script that is run, and a front of its report was written
+-- the whole input is a script that is run, and a prefix of its report was written
 abbrev pub CutShort : Option (List ℕ) → Option (List ℕ) → Option (List ℕ) → Option (List ℕ) → Type 0
-CutShort left rest old new = (input : List ℕ) × (text : List ℕ) × ReadsAll left rest input × IsReportOf input text × AppendsFront old new text
+CutShort left rest old new = (input : List ℕ) × (text : List ℕ) × ReadsAll left rest input × IsReportOf input text × AppendsPrefix old new text
 
 -- the bytes aren't run for that reason, which has that status
 abbrev pub IsRefusedAs : Status → List ℕ → Refusal → Type 0
 IsRefusedAs answer bytes refusal = IsRefused bytes refusal × (IsRunnable bytes → ⊥) × (answer ≡ status_of refusal)
 
--- the whole input isn't run, and the error line that says why was written, or a front of it before the sink failed
+-- the whole input isn't run, and the error line that says why was written, or a prefix of it before the sink failed
 abbrev pub Refused : Status → Option (List ℕ) → Option (List ℕ) → Option (List ℕ) → Option (List ℕ) → ℕ → ℕ → Type 0
 Refused answer left rest old new before now = (input : List ℕ) × (refusal : Refusal) × ReadsAll left rest input × IsRefusedAs answer input refusal × Writes old new before now (refusal_line refusal)
 
@@ -120,6 +120,17 @@ WritesNothing status.Words old new = Unit {0}
 WritesNothing status.Script old new = Unit {0}
 WritesNothing status.WriteFault old new = Unit {0}
 WritesNothing status.OpeningFull old new = Unit {0}
+
+-- the sink's count of faults stands where the whole report was written, or nothing
+abbrev pub SinkStands : Status → ℕ → ℕ → Type 0
+SinkStands status.Done before now = now ≡ before
+SinkStands status.ReadFault before now = now ≡ before
+SinkStands status.NoMemory before now = now ≡ before
+SinkStands status.TooLong before now = now ≡ before
+SinkStands status.Words before now = Unit {0}
+SinkStands status.Script before now = Unit {0}
+SinkStands status.WriteFault before now = Unit {0}
+SinkStands status.OpeningFull before now = Unit {0}
 
 -- a whole script that is run and isn't too long, with no fault on the way, is answered by its report or for want of memory
 abbrev pub IsComplete : List (List ℕ) → Option (List ℕ) → Status → Type 0 → Type 0 → Type 0
@@ -142,7 +153,7 @@ Served words old new status.OpeningFull = IsRunCommand words × Refused status.O
 Served words old new status.ReadFault = IsRunCommand words × Rose old.read_faults new.read_faults × (new.written ≡ old.written)
 Served words old new status.WriteFault = IsRunCommand words × Rose old.write_faults new.write_faults × CutShort old.left new.left old.written new.written
 Served words old new status.NoMemory = IsRunCommand words × (new.written ≡ old.written)
-Served words old new status.TooLong = IsRunCommand words × ReadsFront old.left new.left (longest_script + 1) × (new.written ≡ old.written)
+Served words old new status.TooLong = IsRunCommand words × ReadsPrefix old.left new.left (longest_script + 1) × (new.written ≡ old.written)
 
 -- the error line of a refusal was written, unless memory ran out before
 abbrev pub Declined : Refusal → Option (List ℕ) → Option (List ℕ) → ℕ → ℕ → Status → Type 0
@@ -154,7 +165,7 @@ abbrev pub Answered : List ℕ → Option (List ℕ) → Option (List ℕ) → �
 Answered bytes old new before now status.Done = (text : List ℕ) × IsReportOf bytes text × Appends old new text
 Answered bytes old new before now status.Script = (refusal : Refusal) × IsRefusedAs status.Script bytes refusal × Writes old new before now (refusal_line refusal)
 Answered bytes old new before now status.OpeningFull = (refusal : Refusal) × IsRefusedAs status.OpeningFull bytes refusal × Writes old new before now (refusal_line refusal)
-Answered bytes old new before now status.WriteFault = Rose before now × ((text : List ℕ) × IsReportOf bytes text × AppendsFront old new text)
+Answered bytes old new before now status.WriteFault = Rose before now × ((text : List ℕ) × IsReportOf bytes text × AppendsPrefix old new text)
 Answered bytes old new before now status.NoMemory = new ≡ old
 Answered bytes old new before now status.Words = ⊥
 Answered bytes old new before now status.ReadFault = ⊥

@@ -13,7 +13,7 @@ use crate::plan::{Task, TaskList};
 use crate::state::State;
 use crate::switch::Switch;
 use chip_core::HwSwitch;
-use net_types::NoMemory;
+use net_types::{NoMemory, Shared};
 use std::alloc::Global;
 use switch_model::{Reply, ReplyList, Submission};
 
@@ -75,7 +75,7 @@ fn take_task<C: HwSwitch>(
     let submission = Submission {
         caller: task.caller,
         seq: position,
-        update: task.update,
+        update: Shared::of(alloc, task.update)?,
     };
     let verdict = outcome.switch.settle(alloc, submission)?;
     let reply = Reply::Settled {

@@ -8,7 +8,8 @@ ghost use Rattle.net_types.specs.Unicast.{is_unicast};
 ghost use Rattle.switch_model.specs.First.{first_that_holds};
 ghost use Rattle.switch_model.specs.PlainState.{empty, port_at, vlan_at};
 ghost use Rattle.agent_run.specs.Served.{IsServed};
-ghost use Rattle.switch_model.specs.Reason.{reason, is_in_vlan};
+ghost use Rattle.switch_model.specs.Reason.{reason};
+ghost use Rattle.switch_model.specs.Facts.{is_in_vlan};
 ghost use Rattle.switch_model.specs.Effect.{effect, with_up};
 ghost use Rattle.switch_model.specs.Rows.{is_up};
 

@@ -13,7 +13,7 @@ pub enum Status {
     Script,
     /// The source failed; nothing was written.
     ReadFault,
-    /// The sink failed; a front of the output was written.
+    /// The sink failed; a prefix of the output was written.
     WriteFault,
     /// Memory was refused; nothing was written.
     NoMemory,

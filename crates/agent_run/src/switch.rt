@@ -12,7 +12,7 @@ ghost use Rattle.agent_run.specs.Single.{kind_of, verdict_on, version_by, single
 use crate::program::program;
 use crate::state::State;
 use chip_core::HwSwitch;
-use net_types::{NoMemory, Table};
+use net_types::{NoMemory, Shared, Table};
 use std::alloc::Global;
 use switch_model::{Entry, EntryList, Round, RoundKind, RoundList, Submission, Update, Verdict};
 
@@ -74,7 +74,7 @@ impl<C: HwSwitch> Switch<C> {
 
     /// The verdict on an update by itself, which is in the state and on the chip where it is
     /// accepted.
-    fn attempt(&mut self, alloc: Global, update: &Update) -> Result<Verdict, NoMemory>
+    fn attempt(&mut self, alloc: Global, update: &Shared<Update>) -> Result<Verdict, NoMemory>
         requires in_step { view_of (C.raw self.old.chip) ≡ rows self.old.state }
         requires bare { IsBare self.old.state }
         requires served { IsServed update.now.act }
@@ -85,6 +85,7 @@ impl<C: HwSwitch> Switch<C> {
         ensures caps { C.caps self.new.chip ≡ C.caps self.old.chip }
         ensures others { (self.new.version ≡ self.old.version) × (self.new.settled ≡ self.old.settled) × (self.new.rounds ≡ self.old.rounds) }
     {
+        let update = update.get();
         if let Some(reason) = self.state.reason(&update.act) {
             return Ok(Verdict::Invalid(reason));
         }

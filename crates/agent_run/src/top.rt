@@ -1,8 +1,8 @@
 // The program as one call.
-ghost use Rattle.std.specs.Prelude.{◌≡◌, ◌+◌, ◌↔◌, Decides, map, codes};
+ghost use Rattle.std.specs.Prelude.{◌≡◌, ◌≢◌, ◌+◌, ◌↔◌, Decides, map, codes};
 ghost use Rattle.std.specs.String.{string_bytes};
-ghost use Rattle.io_edge.specs.Causes.{Rose, ReadsFront, Writes};
-ghost use Rattle.agent_run.specs.Top.{IsRunCommand, Reported, Refused, CutShort, WritesNothing, IsComplete, Served, Answered, Declined};
+ghost use Rattle.io_edge.specs.Causes.{Rose, ReadsPrefix, Writes};
+ghost use Rattle.agent_run.specs.Top.{IsRunCommand, Reported, Refused, CutShort, WritesNothing, SinkStands, IsComplete, Served, Answered, Declined};
 
 use crate::refusal::{Refusal, RunFault, refusal_line, status_of};
 use crate::report::report_of;
@@ -50,12 +50,17 @@ pub fn agent_main<Rt: Threads + Wait + Sync, S: Source, K: Sink, F: Store, G: Ga
     ensures cut_short { result ≡ Status.WriteFault → CutShort (S.left source.old) (S.left source.new) (K.written sink.old) (K.written sink.new) }
 
     // One byte more than the longest script came. Where another status tells of a whole input, it isn't longer.
-    ensures too_long { result ≡ Status.TooLong → ReadsFront (S.left source.old) (S.left source.new) (LONGEST_SCRIPT + 1) }
+    ensures too_long { result ≡ Status.TooLong → ReadsPrefix (S.left source.old) (S.left source.new) (LONGEST_SCRIPT + 1) }
     ensures nothing_written { WritesNothing result (K.written sink.old) (K.written sink.new) }
+
+    // No fault is swallowed: a count that rose has its status, or cut the error line short.
+    ensures source_stands { result ≢ Status.ReadFault → S.faults source.new ≡ S.faults source.old }
+    ensures sink_stands { SinkStands result (K.faults sink.old) (K.faults sink.new) }
 
     // A whole script that is run, with no fault on the way, is reported, but for want of memory.
     ensures complete { IsComplete (map string_bytes words.now.items) (S.left source.old) result (Rose (S.faults source.old) (S.faults source.new)) (Rose (K.faults sink.old) (K.faults sink.new)) }
     ensures store { F.texts store.new ≡ F.texts store.old }
+    ensures store_stands { F.faults store.new ≡ F.faults store.old }
 {
     let _ = store;
     serve(alloc, words, source, sink)
@@ -67,7 +72,9 @@ fn serve<S: Source, K: Sink>(
     source: &mut S,
     sink: &mut K,
 ) -> Status
-    ensures { Served (map string_bytes words.now.items) (record { left = S.left source.old; read_faults = S.faults source.old; written = K.written sink.old; write_faults = K.faults sink.old }) (record { left = S.left source.new; read_faults = S.faults source.new; written = K.written sink.new; write_faults = K.faults sink.new }) result }
+    ensures served { Served (map string_bytes words.now.items) (record { left = S.left source.old; read_faults = S.faults source.old; written = K.written sink.old; write_faults = K.faults sink.old }) (record { left = S.left source.new; read_faults = S.faults source.new; written = K.written sink.new; write_faults = K.faults sink.new }) result }
+    ensures source_stands { result ≢ Status.ReadFault → S.faults source.new ≡ S.faults source.old }
+    ensures sink_stands { SinkStands result (K.faults sink.old) (K.faults sink.new) }
 {
     if !is_run_command(words) {
         let _ = write_all(sink, b"error: words\n");
@@ -89,7 +96,8 @@ fn is_run_command(words: &Vec<String>) -> bool
 
 /// Writes the report of the run of a script, or the line that says why there is none.
 fn answer<K: Sink>(alloc: Global, bytes: &[u8], sink: &mut K) -> Status
-    ensures { Answered bytes.now (K.written sink.old) (K.written sink.new) (K.faults sink.old) (K.faults sink.new) result }
+    ensures answered { Answered bytes.now (K.written sink.old) (K.written sink.new) (K.faults sink.old) (K.faults sink.new) result }
+    ensures sink_stands { SinkStands result (K.faults sink.old) (K.faults sink.new) }
 {
     let report = match report_of(alloc, bytes) {
         Ok(report) => report,
@@ -104,7 +112,8 @@ fn answer<K: Sink>(alloc: Global, bytes: &[u8], sink: &mut K) -> Status
 
 /// Writes the line that says why a script isn't run.
 fn refuse<K: Sink>(alloc: Global, refusal: Refusal, sink: &mut K) -> Status
-    ensures { Declined refusal (K.written sink.old) (K.written sink.new) (K.faults sink.old) (K.faults sink.new) result }
+    ensures declined { Declined refusal (K.written sink.old) (K.written sink.new) (K.faults sink.old) (K.faults sink.new) result }
+    ensures sink_stands { SinkStands result (K.faults sink.old) (K.faults sink.new) }
 {
     let Ok(line) = refusal_line(alloc, refusal) else {
         return Status::NoMemory;

@@ -1,6 +1,5 @@
 -- Tables that a chip may be made of, table by table.
 use Rattle.std.proofs.Common.{◌≡◌, ℕ, All, Option, IsSome, List, [], get_or, sym, ap, ◌∙◌, subst, arith}
-use Rattle.std.specs.Cmp.Lexicographic.{slice_cmp}
 use Rattle.std.specs.Ordering.{nat_cmp}
 use Rattle.std.specs.declared.cmp.Ordering.{Ordering}
 use Rattle.std.proofs.lemmas.List.{length-map}
@@ -9,6 +8,7 @@ use Rattle.keyed.specs.KeyOrders.{nat_order}
 use Rattle.keyed.specs.EachLaws.{all-each, each-all}
 use Rattle.keyed.specs.Named.{AreDistinct}
 use Rattle.net_types.specs.Derived.{host-derived, route-derived}
+use Rattle.net_types.specs.Groups.{group_key_cmp, group_key_of}
 use Rattle.net_types.specs.KeyOrder.{l2_cmp, route_cmp, route_order}
 use Rattle.net_types.specs.contracts.table.HostKeyOrd.TheImpl as host
 use Rattle.net_types.specs.contracts.table.RouteKeyOrd.TheImpl as route
@@ -24,8 +24,8 @@ use Rattle.net_types.specs.declared.table.RouteRow.TheVariants.{Host, Group, ToC
 use Rattle.net_types.specs.declared.table.Tables.{Tables}
 use Rattle.chip_core.specs.Chip.{IsChip, IsImage, AreLinked}
 use Rattle.chip_core.specs.References.{IsRouteHeld, AreMembersHeld}
-use Rattle.chip_core.specs.Sim.{tables_of}
-use Rattle.chip_core.specs.Slots.{Hosts, Groups, host_entries, host_at, hosts_of}
+use Rattle.chip_core.specs.Sim.{Contents, tables_of, targets}
+use Rattle.chip_core.specs.Slots.{Hosts, Groups, host_entries, host_rows, host_at}
 use Rattle.chip_core.specs.SlotsLaws.{Entries, rows-entries, host_at-rows}
 use Rattle.chip_core.specs.Sound.{is_chip}
 use Rattle.chip_core.specs.Tables.{IsSlotted, IsGroupRow, MembersHeld, RoutesHeld}
@@ -38,17 +38,17 @@ abbrev pub Routes : Type 0
 Routes = List (RouteKey × RouteRow)
 
 -- held whatever stands in the other two tables
-held-elsewhere : (l2 : L2s) (hosts : Entries) (groups : Groups) (routes : Routes) (row : RouteRow) → IsRouteHeld (tables_of [] hosts groups []) row → IsRouteHeld (tables_of l2 hosts groups routes) row
-held-elsewhere l2 hosts groups routes (Host slot) held = held
-held-elsewhere l2 hosts groups routes (Group slot) held = held
-held-elsewhere l2 hosts groups routes ToCpu held = tt
-held-elsewhere l2 hosts groups routes Discard held = tt
+held-elsewhere : (c : Contents) (row : RouteRow) → IsRouteHeld (tables_of (targets c.host c.group)) row → IsRouteHeld (tables_of c) row
+held-elsewhere c (Host slot) held = held
+held-elsewhere c (Group slot) held = held
+held-elsewhere c ToCpu held = tt
+held-elsewhere c Discard held = tt
 
-pub linked_from : (l2 : L2s) (hosts : Entries) (groups : Groups) (routes : Routes) → All (λ group. IsGroupRow group.1) groups → MembersHeld hosts groups → RoutesHeld hosts groups routes → AreLinked (tables_of l2 hosts groups routes)
-linked_from l2 hosts groups routes rows members held = record {
-  lengths = all-each nat_cmp nat_order (λ (g : List Member). _) groups (λ k d lt. (rows k d lt).long);
-  members = all-each nat_cmp nat_order (AreMembersHeld (tables_of l2 hosts groups routes)) groups (λ k d lt. λ i e within. subst (λ (o : Option (HostKey × HostRow)). IsSome o) (sym (host_at-rows (get_or (get_or groups k d).1 i e).host hosts)) (members k d lt i e within));
-  routes = all-each route_cmp route_order (IsRouteHeld (tables_of l2 hosts groups routes)) routes (λ k d lt. held-elsewhere l2 hosts groups routes (get_or routes k d).1 (held k d lt));
+pub linked_from : (c : Contents) → All (λ group. IsGroupRow group.1) c.group → MembersHeld c.host c.group → RoutesHeld c.host c.group c.route → AreLinked (tables_of c)
+linked_from c rows members held = record {
+  lengths = all-each nat_cmp nat_order (λ (g : List Member). _) c.group (λ k d lt. (rows k d lt).long);
+  members = all-each nat_cmp nat_order (AreMembersHeld (tables_of c)) c.group (λ k d lt. λ i e within. subst (λ (o : Option (HostKey × HostRow)). IsSome o) (sym (host_at-rows (get_or (get_or c.group k d).1 i e).host c.host)) (members k d lt i e within));
+  routes = all-each route_cmp route_order (IsRouteHeld (tables_of c)) c.route (λ k d lt. held-elsewhere c (get_or c.route k d).1 (held k d lt));
 }
 
 module _ (caps : Caps) (tables : Tables) (image : IsImage caps tables) where
@@ -66,7 +66,7 @@ module _ (caps : Caps) (tables : Tables) (image : IsImage caps tables) where
     below = image.chip.within.host_slots;
   }
 
-  pub image_group : IsSlotted (slice_cmp nat_cmp) hosts_of caps.group tables.group
+  pub image_group : IsSlotted group_key_cmp group_key_of caps.group tables.group
   image_group = record { ascends = image.chip.rows.keys.group; distinct = image.chip.rows.keys.group_keys; fits = image.chip.within.group; below = image.chip.within.group_slots }
 
   pub image_groups : All (λ group. IsGroupRow group.1) tables.group
@@ -77,7 +77,7 @@ module _ (caps : Caps) (tables : Tables) (image : IsImage caps tables) where
   pub image_members : MembersHeld (host_entries tables.host) tables.group
   image_members = each-all nat_cmp nat_order (AreMembersHeld tables) tables.group image.chip.rows.keys.group image.chip.rows.links.members
 
-  image_held : (row : RouteRow) → IsRouteHeld tables row → IsRouteHeld (tables_of [] (host_entries tables.host) tables.group []) row
+  image_held : (row : RouteRow) → IsRouteHeld tables row → IsRouteHeld (tables_of (targets (host_entries tables.host) tables.group)) row
   image_held (Host slot) held = subst (λ (hosts : Hosts). IsSome (host_at slot hosts)) (sym (rows-entries tables.host)) held
   image_held (Group slot) held = held
   image_held ToCpu held = tt
@@ -87,17 +87,19 @@ module _ (caps : Caps) (tables : Tables) (image : IsImage caps tables) where
   image_routes = λ k d lt. image_held (get_or tables.route k d).1 (each-all route_cmp route_order (IsRouteHeld tables) tables.route image.chip.rows.keys.route image.chip.rows.links.routes k d lt)
 
 -- and the other way round
-pub image_from : (caps : Caps) (tables : Tables) → IsSorted l2_cmp caps.l2 tables.l2 → IsSlotted (host.cmp-value).it (λ (h : HostKey × HostRow). h.0) caps.host (host_entries tables.host) → IsSlotted (slice_cmp nat_cmp) hosts_of caps.group tables.group → IsSorted (route.cmp-value).it caps.route tables.route → All (λ group. IsGroupRow group.1) tables.group → MembersHeld (host_entries tables.host) tables.group → RoutesHeld (host_entries tables.host) tables.group tables.route → IsImage caps tables
+pub image_from : (caps : Caps) (tables : Tables) → IsSorted l2_cmp caps.l2 tables.l2 → IsSlotted (host.cmp-value).it (λ (h : HostKey × HostRow). h.0) caps.host (host_entries tables.host) → IsSlotted group_key_cmp group_key_of caps.group tables.group → IsSorted (route.cmp-value).it caps.route tables.route → All (λ group. IsGroupRow group.1) tables.group → MembersHeld (host_entries tables.host) tables.group → RoutesHeld (host_entries tables.host) tables.group tables.route → IsImage caps tables
 image_from caps tables by_l2 by_host by_group by_route rows members held =
-    let chip = is_chip caps.l2 caps.host caps.group caps.route tables.l2 (host_entries tables.host) tables.group tables.route by_l2 by_host by_group by_route (linked_from tables.l2 (host_entries tables.host) tables.group tables.route rows members held) in
+    let c : Contents = record { l2 = tables.l2; host = host_entries tables.host; group = tables.group; route = tables.route } in
+    let chip = is_chip caps c by_l2 by_host by_group by_route (linked_from c rows members held) in
     record {
       chip = subst (λ (hosts : Hosts). IsChip caps (record tables { host = hosts })) (rows-entries tables.host) chip;
       once = all-each nat_cmp nat_order (λ (g : List Member). _) tables.group (λ k d lt. (rows k d lt).once);
     }
 
-pub tables_as : (tables : Tables) (l2 : L2s) (hosts : Entries) (groups : Groups) (routes : Routes) → l2 ≡ tables.l2 → hosts ≡ host_entries tables.host → groups ≡ tables.group → routes ≡ tables.route → tables_of l2 hosts groups routes ≡ tables
-tables_as tables l2 hosts groups routes is_l2 is_host is_group is_route =
-    ap (λ (l : L2s). tables_of l hosts groups routes) is_l2 ∙ ap (λ (h : Entries). tables_of tables.l2 h groups routes) is_host ∙ ap (λ (g : Groups). tables_of tables.l2 (host_entries tables.host) g routes) is_group ∙ ap (λ (r : Routes). tables_of tables.l2 (host_entries tables.host) tables.group r) is_route ∙ ap (λ (h : Hosts). record tables { host = h }) (rows-entries tables.host)
+pub tables_as : (tables : Tables) (c : Contents) → c.l2 ≡ tables.l2 → c.host ≡ host_entries tables.host → c.group ≡ tables.group → c.route ≡ tables.route → tables_of c ≡ tables
+tables_as tables c is_l2 is_host is_group is_route =
+    let same : tables_of c ≡ record tables { host = host_rows (host_entries tables.host) } = λ i. record { l2 = is_l2 i; host = host_rows (is_host i); group = is_group i; route = is_route i } in
+    same ∙ ap (λ (h : Hosts). record tables { host = h }) (rows-entries tables.host)
 
 pub members_as : (hosts hosts' : Entries) (groups groups' : Groups) → hosts ≡ hosts' → groups ≡ groups' → MembersHeld hosts' groups' → MembersHeld hosts groups
 members_as hosts hosts' groups groups' is_host is_group held = subst (λ (h : Entries). MembersHeld h groups) (sym is_host) (subst (λ (g : Groups). MembersHeld hosts' g) (sym is_group) held)
@@ -106,12 +108,12 @@ pub routes_as : (hosts hosts' : Entries) (groups groups' : Groups) (routes route
 routes_as hosts hosts' groups groups' routes routes' is_host is_group is_route held = subst (λ (h : Entries). RoutesHeld h groups routes) (sym is_host) (subst (λ (g : Groups). RoutesHeld hosts' g routes) (sym is_group) (subst (λ (r : Routes). RoutesHeld hosts' groups' r) (sym is_route) held))
 
 -- tables that were taken make a chip
-pub image_made : (caps : Caps) (tables : Tables) (l2 : L2s) (hosts : Entries) (groups : Groups) (routes : Routes) → l2 ≡ tables.l2 → hosts ≡ host_entries tables.host → groups ≡ tables.group → routes ≡ tables.route → IsSorted l2_cmp caps.l2 l2 → IsSlotted (host.cmp-value).it (λ (h : HostKey × HostRow). h.0) caps.host hosts → IsSlotted (slice_cmp nat_cmp) hosts_of caps.group groups → IsSorted (route.cmp-value).it caps.route routes → All (λ group. IsGroupRow group.1) groups → MembersHeld hosts groups → RoutesHeld hosts groups routes → IsImage caps tables
-image_made caps tables l2 hosts groups routes is_l2 is_host is_group is_route by_l2 by_host by_group by_route rows members held = image_from caps tables
+pub image_made : (caps : Caps) (tables : Tables) (c : Contents) → c.l2 ≡ tables.l2 → c.host ≡ host_entries tables.host → c.group ≡ tables.group → c.route ≡ tables.route → IsSorted l2_cmp caps.l2 c.l2 → IsSlotted (host.cmp-value).it (λ (h : HostKey × HostRow). h.0) caps.host c.host → IsSlotted group_key_cmp group_key_of caps.group c.group → IsSorted (route.cmp-value).it caps.route c.route → All (λ group. IsGroupRow group.1) c.group → MembersHeld c.host c.group → RoutesHeld c.host c.group c.route → IsImage caps tables
+image_made caps tables c is_l2 is_host is_group is_route by_l2 by_host by_group by_route rows members held = image_from caps tables
     (subst (λ (l : L2s). IsSorted l2_cmp caps.l2 l) is_l2 by_l2)
     (subst (λ (h : Entries). IsSlotted (host.cmp-value).it (λ (e : HostKey × HostRow). e.0) caps.host h) is_host by_host)
-    (subst (λ (g : Groups). IsSlotted (slice_cmp nat_cmp) hosts_of caps.group g) is_group by_group)
+    (subst (λ (g : Groups). IsSlotted group_key_cmp group_key_of caps.group g) is_group by_group)
     (subst (λ (r : Routes). IsSorted (route.cmp-value).it caps.route r) is_route by_route)
     (subst (λ (g : Groups). All (λ group. IsGroupRow group.1) g) is_group rows)
-    (members_as (host_entries tables.host) hosts tables.group groups (sym is_host) (sym is_group) members)
-    (routes_as (host_entries tables.host) hosts tables.group groups tables.route routes (sym is_host) (sym is_group) (sym is_route) held)
+    (members_as (host_entries tables.host) c.host tables.group c.group (sym is_host) (sym is_group) members)
+    (routes_as (host_entries tables.host) c.host tables.group c.group tables.route c.route (sym is_host) (sym is_group) (sym is_route) held)

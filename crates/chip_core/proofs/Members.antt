@@ -9,7 +9,7 @@ use Rattle.net_types.specs.declared.group.Member.{Member}
 use Rattle.net_types.specs.declared.table.RouteRow.{RouteRow}
 use Rattle.net_types.specs.declared.table.RouteRow.TheVariants.{Host}
 use Rattle.chip_core.specs.References.{IsRouteHeld}
-use Rattle.chip_core.specs.Sim.{tables_of}
+use Rattle.chip_core.specs.Sim.{tables_of, targets}
 use Rattle.chip_core.specs.Slots.{Groups, host_at, host_rows, hosts_of}
 use Rattle.chip_core.specs.SlotsLaws.{Entries, host_at-rows}
 
@@ -64,11 +64,11 @@ module _ (ms : List Member) (place : ℕ) (found : Bool) (within : place < lengt
   once_after distinct = distinct_rest (get_or ms place unused) (drop (place + 1) ms) (subst (λ (l : List Member). IsDistinct nat_eq (hosts_of l)) opened distinct)
 
 -- a route to a host is held where the host is there
-pub route_host : (hosts : Entries) (groups : Groups) (row : RouteRow) (slot : ℕ) (there : Bool) → row ≡ Host slot → there ≡ is_some (at nat_cmp slot hosts) → (IsTrue there → IsRouteHeld (tables_of [] hosts groups []) row) × (IsRouteHeld (tables_of [] hosts groups []) row → IsTrue there)
+pub route_host : (hosts : Entries) (groups : Groups) (row : RouteRow) (slot : ℕ) (there : Bool) → row ≡ Host slot → there ≡ is_some (at nat_cmp slot hosts) → (IsTrue there → IsRouteHeld (tables_of (targets hosts groups)) row) × (IsRouteHeld (tables_of (targets hosts groups)) row → IsTrue there)
 route_host hosts groups row slot there is found =
     let same : there ≡ is_some (host_at slot (host_rows hosts)) = found ∙ sym (ap is_some (host_at-rows slot hosts)) in
-    let held : (IsTrue there → IsRouteHeld (tables_of [] hosts groups []) (Host slot)) × (IsRouteHeld (tables_of [] hosts groups []) (Host slot) → IsTrue there) = ((λ h. sym same ∙ h), (λ h. same ∙ h)) in
-    subst (λ (r : RouteRow). (IsTrue there → IsRouteHeld (tables_of [] hosts groups []) r) × (IsRouteHeld (tables_of [] hosts groups []) r → IsTrue there)) (sym is) held
+    let held : (IsTrue there → IsRouteHeld (tables_of (targets hosts groups)) (Host slot)) × (IsRouteHeld (tables_of (targets hosts groups)) (Host slot) → IsTrue there) = ((λ h. sym same ∙ h), (λ h. same ∙ h)) in
+    subst (λ (r : RouteRow). (IsTrue there → IsRouteHeld (tables_of (targets hosts groups)) r) × (IsRouteHeld (tables_of (targets hosts groups)) r → IsTrue there)) (sym is) held
 
 either_side : (k n : ℕ) → k < n + 1 → (k < n) ⊎ (k ≡ n)
 either_side k n lt = grind arith

@@ -1,12 +1,9 @@
 -- What changes of rows make of the rows that they start from.
-use Rattle.std.specs.Prelude.{◌≡◌, ◌+◌, ◌*◌, ℕ, Bool, Option, None, Some, IsSome, List, [], ◌∷◌, length, All}
+use Rattle.std.specs.Prelude.{◌≡◌, ◌+◌, ◌*◌, ℕ, Option, None, Some, List, [], ◌∷◌, length}
 use Rattle.std.specs.declared.cmp.Ordering.{Ordering}
-use Rattle.keyed.specs.Keyed.{at, put, without, Each}
+use Rattle.keyed.specs.Keyed.{at, put, without}
 use Rattle.net_types.specs.KeyOrder.{l2_cmp, host_cmp, group_cmp, route_cmp}
 use Rattle.net_types.specs.Rows.{Rows}
-use Rattle.net_types.specs.declared.table.HopTarget.{HopTarget}
-use Rattle.net_types.specs.declared.table.HopTarget.TheVariants.{Host, Group, ToCpu, Discard}
-use Rattle.net_types.specs.declared.table.HostKey.{HostKey}
 use Rattle.chip_core.specs.ChangeLists.{Change}
 use Rattle.chip_core.specs.declared.changes.RowChanges.{RowChanges}
 
@@ -54,18 +51,6 @@ pub record AreOldRows (changes : RowChanges) (rows : Rows) : Type 0 where
   pub host : AreOld host_cmp changes.host rows.host
   pub group : AreOld group_cmp changes.group rows.group
   pub route : AreOld route_cmp changes.route rows.route
-
--- what a route leads to is a key of the rows
-abbrev pub IsTargetKnown : Rows → HopTarget → Type 0
-IsTargetKnown rows (Host key) = IsSome (at host_cmp key rows.host)
-IsTargetKnown rows (Group keys) = IsSome (at group_cmp keys rows.group)
-IsTargetKnown rows ToCpu = Unit {0}
-IsTargetKnown rows Discard = Unit {0}
-
--- each host of a group, and each host or group that a route leads to, is a key of the rows
-pub record IsClosed (rows : Rows) : Type 0 where
-  pub group : (keys : List HostKey) (marks : List Bool) → at group_cmp keys rows.group ≡ Some marks → All (λ key. IsSome (at host_cmp key rows.host)) keys
-  pub route : Each route_cmp (IsTargetKnown rows) rows.route
 
 -- the most writes that the changes take: two for a route, and one for each other row
 abbrev pub writes_of : RowChanges → ℕ

@@ -1,12 +1,11 @@
 -- The chip's tables: what they mean, and the rules that they keep.
 use Rattle.std.specs.Prelude.{◌≤◌, ◌<◌, ℕ, Bool, Option, List, [], length, map, nat_eq}
-use Rattle.std.specs.Cmp.Lexicographic.{slice_cmp}
 use Rattle.std.specs.List.{filter_map, IsDistinct}
 use Rattle.std.specs.Option.{option_map, option_map_or}
 use Rattle.std.specs.Ordering.{nat_cmp}
 use Rattle.keyed.specs.Keyed.{at, Ascends, Each, with_values}
 use Rattle.keyed.specs.Named.{AreDistinct, gathered}
-use Rattle.net_types.specs.Groups.{IsGroupLength}
+use Rattle.net_types.specs.Groups.{IsGroupLength, group_key_cmp, group_key_of}
 use Rattle.net_types.specs.KeyOrder.{l2_cmp, host_cmp, group_cmp, route_cmp}
 use Rattle.net_types.specs.Rows.{Rows}
 use Rattle.net_types.specs.declared.group.Member.{Member}
@@ -17,7 +16,7 @@ use Rattle.net_types.specs.declared.table.HostKey.{HostKey}
 use Rattle.net_types.specs.declared.table.RouteRow.{RouteRow}
 use Rattle.net_types.specs.declared.table.RouteRow.TheVariants.{Host, Group, ToCpu, Discard}
 use Rattle.net_types.specs.declared.table.Tables.{Tables}
-use Rattle.chip_core.specs.References.{IsHost, IsGroup, AreMembersHeld, IsRouteHeld}
+use Rattle.chip_core.specs.References.{IsHost, IsGroup, AreMembersHeld, EachRoute, IsRouteHeld}
 use Rattle.chip_core.specs.Slots.{Hosts, host_entries, host_at, hosts_of}
 
 -- the tables without rows
@@ -52,20 +51,20 @@ view_of raw = record {
   route = with_values (target_of raw) raw.route;
 }
 
--- rows ascend by key or by slot, so that none stands twice, and no host and no group's list of hosts stands in two slots
+-- rows ascend by key or by slot, so that none stands twice, and no host and no group stands in two slots
 pub record AreKeysDistinct (raw : Tables) : Type 0 where
   pub l2 : Ascends l2_cmp raw.l2
   pub host : Ascends nat_cmp (host_entries raw.host)
   pub group : Ascends nat_cmp raw.group
   pub route : Ascends route_cmp raw.route
   pub host_keys : AreDistinct host_cmp (λ h. h.0) (host_entries raw.host)
-  pub group_keys : AreDistinct (slice_cmp nat_cmp) hosts_of raw.group
+  pub group_keys : AreDistinct group_key_cmp group_key_of raw.group
 
 -- a group has 2 to 64 members, and the hosts and groups that members and routes lead to are there
 pub record AreLinked (raw : Tables) : Type 0 where
   pub lengths : Each nat_cmp (λ members. IsGroupLength (length members)) raw.group
   pub members : Each nat_cmp (AreMembersHeld raw) raw.group
-  pub routes : Each route_cmp (IsRouteHeld raw) raw.route
+  pub routes : EachRoute raw (IsRouteHeld raw)
 
 -- the rules of a chip's tables, capacities left aside
 pub record IsConsistent (raw : Tables) : Type 0 where

@@ -1,16 +1,16 @@
 -- What holds of a chip's tables: what is found is there, and what is taken away may be put back.
 use Rattle.std.proofs.Common.{◌≡◌, ◌≢◌, ◌≤◌, ◌<◌, ℕ, Bool, All, None, Some, List, [], length, refl, sym, ap, ◌∙◌, subst, arith}
-use Rattle.std.specs.Cmp.Lexicographic.{slice_cmp}
 use Rattle.std.specs.Option.{option_map}
 use Rattle.std.specs.Ordering.{nat_cmp}
 use Rattle.std.proofs.Math.ListN.{get_or-map}
 use Rattle.std.proofs.lemmas.List.{length-map}
 use Rattle.keyed.specs.Keyed.{at, without, Each}
-use Rattle.keyed.specs.KeyOrders.{lists_order, nat_order}
+use Rattle.keyed.specs.KeyOrders.{nat_order}
 use Rattle.keyed.specs.KeyedLaws.{at-without, length-without}
 use Rattle.keyed.specs.EachLaws.{each_nil, named-at}
 use Rattle.keyed.specs.NamedLaws.{key_of-without_same, length-gathered}
 use Rattle.keyed.specs.ValueLaws.{length-with_values}
+use Rattle.net_types.specs.Groups.{group_key_cmp, group_key_of, group_key_order}
 use Rattle.net_types.specs.KeyOrder.{group_cmp, host_cmp, host_order, l2_cmp, l2_order, route_cmp, route_order}
 use Rattle.net_types.specs.declared.group.Member.{Member}
 use Rattle.net_types.specs.declared.table.Caps.{Caps}
@@ -36,13 +36,13 @@ host-found caps raw key slot chip found =
 -- a group that is found is there
 pub group-found : (caps : Caps) (raw : Tables) (hosts : List ℕ) (slot : ℕ) → IsChip caps raw → group_slot_of hosts raw.group ≡ Some slot → IsGroup raw slot
 group-found caps raw hosts slot chip found =
-    let there = named-at nat_cmp nat_order (slice_cmp nat_cmp) (lists_order nat_cmp nat_order) hosts_of hosts slot raw.group chip.rows.keys.group found in
+    let there = named-at nat_cmp nat_order group_key_cmp group_key_order group_key_of hosts slot raw.group chip.rows.keys.group found in
     rw there.1.0 refl
 
--- and has these hosts
-pub group-hosts : (caps : Caps) (raw : Tables) (hosts : List ℕ) (slot : ℕ) → IsChip caps raw → group_slot_of hosts raw.group ≡ Some slot → option_map hosts_of (at nat_cmp slot raw.group) ≡ Some hosts
-group-hosts caps raw hosts slot chip found =
-    let there = named-at nat_cmp nat_order (slice_cmp nat_cmp) (lists_order nat_cmp nat_order) hosts_of hosts slot raw.group chip.rows.keys.group found in
+-- and has that key
+pub group-keyed : (caps : Caps) (raw : Tables) (hosts : List ℕ) (slot : ℕ) → IsChip caps raw → group_slot_of hosts raw.group ≡ Some slot → option_map group_key_of (at nat_cmp slot raw.group) ≡ Some hosts
+group-keyed caps raw hosts slot chip found =
+    let there = named-at nat_cmp nat_order group_key_cmp group_key_order group_key_of hosts slot raw.group chip.rows.keys.group found in
     rw there.1.0 (ap (λ (l : List ℕ). Some l) there.1.1)
 
 -- what put_back asks of an l2 row's key
@@ -79,7 +79,7 @@ host-gone caps raw slot host chip there =
 
 -- what put_back asks of a group's row and slot
 pub record IsGroupRoom (caps : Caps) (raw : Tables) (slot : ℕ) (row : List Member) : Type 0 where
-  pub absent : group_slot_of (hosts_of row) raw.group ≡ None
+  pub absent : group_slot_of (group_key_of row) raw.group ≡ None
   pub held : AreMembersHeld raw row
   pub free : at nat_cmp slot raw.group ≡ None
   pub below : slot < caps.group
@@ -88,7 +88,7 @@ pub record IsGroupRoom (caps : Caps) (raw : Tables) (slot : ℕ) (row : List Mem
 -- a group that was taken away may be put back
 pub group-gone : (caps : Caps) (raw : Tables) (slot : ℕ) (row : List Member) → IsChip caps raw → at nat_cmp slot raw.group ≡ Some row → IsGroupRoom caps (record raw { group = without nat_cmp slot raw.group }) slot row
 group-gone caps raw slot row chip there = record {
-  absent = key_of-without_same nat_cmp nat_order (slice_cmp nat_cmp) (lists_order nat_cmp nat_order) hosts_of slot row raw.group chip.rows.keys.group_keys there;
+  absent = key_of-without_same nat_cmp nat_order group_key_cmp group_key_order group_key_of slot row raw.group chip.rows.keys.group_keys there;
   held = chip.rows.links.members.each slot row there;
   free = at-without nat_cmp nat_order slot raw.group chip.rows.keys.group;
   below = chip.within.group_slots slot (rw there refl);

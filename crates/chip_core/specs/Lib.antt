@@ -10,3 +10,7 @@ pub mod Tables
 pub mod Taken
 pub mod Sound
 pub mod ChipLaws
+pub mod ListLaws
+pub mod GatheredLaws
+pub mod MemberSlots
+pub mod ViewLaws

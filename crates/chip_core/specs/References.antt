@@ -9,6 +9,10 @@ use Rattle.net_types.specs.declared.table.RouteRow.TheVariants.{Host, Group, ToC
 use Rattle.net_types.specs.declared.table.Tables.{Tables}
 use Rattle.chip_core.specs.Slots.{host_at}
 
+-- each route of the chip has such a row
+abbrev pub EachRoute : Tables → (RouteRow → Type 0) → Type 0
+EachRoute raw Is = Each route_cmp Is raw.route
+
 -- a host stands in the slot
 abbrev pub IsHost : Tables → ℕ → Type 0
 IsHost raw slot = IsSome (host_at slot raw.host)
@@ -31,8 +35,8 @@ IsRouteHeld raw Discard = Unit {0}
 -- no group and no route leads to the host in the slot
 pub record IsUnusedHost (raw : Tables) (slot : ℕ) : Type 0 where
   pub group : Each nat_cmp (λ members. All (λ m. m.host ≢ slot) members) raw.group
-  pub route : Each route_cmp (λ row. row ≢ Host slot) raw.route
+  pub route : EachRoute raw (λ row. row ≢ Host slot)
 
 -- no route leads to the group in the slot
 abbrev pub IsUnusedGroup : Tables → ℕ → Type 0
-IsUnusedGroup raw slot = Each route_cmp (λ row. row ≢ Group slot) raw.route
+IsUnusedGroup raw slot = EachRoute raw (λ row. row ≢ Group slot)

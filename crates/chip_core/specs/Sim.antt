@@ -1,5 +1,5 @@
 -- The tables of the chip in memory.
-use Rattle.std.specs.Prelude.{ℕ, List}
+use Rattle.std.specs.Prelude.{ℕ, List, []}
 use Rattle.std.specs.Coded.{Coded-set, coded_bool, ×_prop, Unit-prop, le_prop}
 use Rattle.net_types.specs.declared.group.Member.{Member}
 use Rattle.net_types.specs.declared.table.HostKey.{HostKey}
@@ -15,9 +15,20 @@ use Rattle.chip_core.specs.Chip.{AreLinked}
 use Rattle.chip_core.specs.References.{IsRouteHeld}
 use Rattle.chip_core.specs.Slots.{host_rows}
 
--- the tables of these entries
-abbrev pub tables_of : List (L2Key × L2Row) → List (ℕ × (HostKey × HostRow)) → List (ℕ × List Member) → List (RouteKey × RouteRow) → Tables
-tables_of l2 hosts groups routes = record { l2 = l2; host = host_rows hosts; group = groups; route = routes }
+-- what stands in a chip's tables: rows by key, and hosts and groups as entries by slot
+pub record Contents : Type 0 where
+  pub l2 : List (L2Key × L2Row)
+  pub host : List (ℕ × (HostKey × HostRow))
+  pub group : List (ℕ × List Member)
+  pub route : List (RouteKey × RouteRow)
+
+-- the tables with these contents
+abbrev pub tables_of : Contents → Tables
+tables_of c = record { l2 = c.l2; host = host_rows c.host; group = c.group; route = c.route }
+
+-- hosts and groups alone, to which routes may lead
+abbrev pub targets : List (ℕ × (HostKey × HostRow)) → List (ℕ × List Member) → Contents
+targets hosts groups = record { l2 = []; host = hosts; group = groups; route = [] }
 
 IsRouteHeld-prop : (raw : Tables) (row : RouteRow) → IsProp (IsRouteHeld raw row)
 IsRouteHeld-prop raw (Host slot) = Coded-set coded_bool _ _

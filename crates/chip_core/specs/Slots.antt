@@ -1,9 +1,9 @@
 -- Rows that stand in slots. Group and route rows name what they lead to by its slot.
 use Rattle.std.specs.Prelude.{◌≡◌, ◌<◌, ℕ, Option, None, IsSome, List, map}
-use Rattle.std.specs.Cmp.Lexicographic.{slice_cmp}
 use Rattle.std.specs.Ordering.{nat_cmp}
 use Rattle.keyed.specs.Keyed.{at, put, without, change}
 use Rattle.keyed.specs.Named.{key_of}
+use Rattle.net_types.specs.Groups.{group_key_cmp, group_key_of}
 use Rattle.net_types.specs.KeyOrder.{host_cmp}
 use Rattle.net_types.specs.declared.group.Member.{Member}
 use Rattle.net_types.specs.declared.table.HostKey.{HostKey}
@@ -45,13 +45,13 @@ without_host slot hosts = host_rows (without nat_cmp slot (host_entries hosts))
 abbrev pub slot_of : HostKey → Hosts → Option ℕ
 slot_of key hosts = key_of host_cmp (λ h. h.0) key (host_entries hosts)
 
--- the slots of a group's hosts, in order: its key
+-- the slots of the hosts that a group leads to, in the order of its members
 abbrev pub hosts_of : List Member → List ℕ
 hosts_of members = map (λ m. m.host) members
 
--- the slot of the group with these hosts, in this order
+-- the slot of the group with this key
 abbrev pub group_slot_of : List ℕ → Groups → Option ℕ
-group_slot_of hosts groups = key_of (slice_cmp nat_cmp) hosts_of hosts groups
+group_slot_of key groups = key_of group_key_cmp group_key_of key groups
 
 -- the slot is free, and each lower one is taken
 pub record IsLowestFree {V : Type 0} (slot : ℕ) (entries : List (ℕ × V)) : Type 0 where

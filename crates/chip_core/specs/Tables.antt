@@ -1,5 +1,5 @@
 -- One table of the chip in memory.
-use Rattle.std.specs.Prelude.{◌≤◌, ◌<◌, ℕ, All, IsSome, List, [], length, nat_eq}
+use Rattle.std.specs.Prelude.{◌≤◌, ◌<◌, ℕ, All, IsSome, List, length, nat_eq}
 use Rattle.std.specs.List.{IsDistinct}
 use Rattle.std.specs.Ordering.{nat_cmp}
 use Rattle.std.specs.declared.cmp.Ordering.{Ordering}
@@ -12,7 +12,7 @@ use Rattle.net_types.specs.declared.group.Member.{Member}
 use Rattle.net_types.specs.declared.table.RouteKey.{RouteKey}
 use Rattle.net_types.specs.declared.table.RouteRow.{RouteRow}
 use Rattle.chip_core.specs.References.{IsRouteHeld}
-use Rattle.chip_core.specs.Sim.{tables_of}
+use Rattle.chip_core.specs.Sim.{tables_of, targets}
 use Rattle.chip_core.specs.Slots.{Groups, hosts_of}
 use Rattle.chip_core.specs.SlotsLaws.{Entries}
 
@@ -42,4 +42,4 @@ MembersHeld hosts groups = All (λ group. All (λ member. IsSome (at nat_cmp mem
 
 -- what each route leads to is there
 abbrev pub RoutesHeld : Entries → Groups → List (RouteKey × RouteRow) → Type 0
-RoutesHeld hosts groups routes = All (λ route. IsRouteHeld (tables_of [] hosts groups []) route.1) routes
+RoutesHeld hosts groups routes = All (λ route. IsRouteHeld (tables_of (targets hosts groups)) route.1) routes

@@ -108,6 +108,14 @@ impl Model for GroupChangeList {
 }
 
 impl GroupChangeList {
+    /// The list of these changes, each of which is of a group. It takes no memory.
+    pub fn of(changes: ChangeList<HostKeyList, MarkList>) -> Self
+        requires { AreGroupChanges changes }
+        ensures { result ≡ changes }
+    {
+        GroupChangeList { changes }
+    }
+
     pub fn new(alloc: Global) -> Self
         ensures { result ≡ [] }
     {

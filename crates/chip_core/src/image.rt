@@ -4,7 +4,7 @@ ghost use Rattle.std.specs.List.{IsDistinct, list_any};
 ghost use Rattle.std.specs.Ordering.{nat_cmp};
 ghost use Rattle.keyed.specs.Keyed.{at};
 ghost use Rattle.chip_core.specs.References.{IsRouteHeld};
-ghost use Rattle.chip_core.specs.Sim.{tables_of};
+ghost use Rattle.chip_core.specs.Sim.{tables_of, targets};
 ghost use Rattle.chip_core.specs.Slots.{host_entries, hosts_of};
 ghost use Rattle.chip_core.specs.Tables.{IsGroupRow};
 
@@ -134,7 +134,7 @@ pub(crate) fn are_routes_held(
     groups: &GroupTable,
     routes: &[(RouteKey, RouteRow)],
 ) -> bool
-    ensures { IsTrue result ↔ All (λ route. IsRouteHeld (tables_of [] hosts.now.rows groups.now.rows []) route.1) routes.now }
+    ensures { IsTrue result ↔ All (λ route. IsRouteHeld (tables_of (targets hosts.now.rows groups.now.rows)) route.1) routes.now }
 {
     for route in routes {
         if !is_route_held(hosts, groups, &route.1) {
@@ -146,7 +146,7 @@ pub(crate) fn are_routes_held(
 
 /// Whether what the route leads to is there.
 fn is_route_held(hosts: &HostTable, groups: &GroupTable, row: &RouteRow) -> bool
-    ensures { IsTrue result ↔ IsRouteHeld (tables_of [] hosts.now.rows groups.now.rows []) row.now }
+    ensures { IsTrue result ↔ IsRouteHeld (tables_of (targets hosts.now.rows groups.now.rows)) row.now }
 {
     match row {
         RouteRow::Host(slot) => hosts.get(*slot).is_some(),

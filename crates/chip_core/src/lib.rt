@@ -4,8 +4,8 @@
 mod changes;
 mod count;
 mod fault;
-mod group_key;
 mod image;
+mod laws;
 mod named;
 mod sim;
 mod slots;
@@ -17,12 +17,11 @@ pub use changes::{
 };
 pub use count::WriteCount;
 pub use fault::RowsFault;
+pub use laws::{chip_fits, chip_is_image};
 pub use net_types::{
-    Caps, GroupRow, GroupRowList, HopTarget, HostAct, HostKey, HostKeyList, HostRow, HostRowList,
-    L2Key, L2Row, L2RowList, Member, MemberList, RouteKey, RouteRow, RouteRowList, Table, Tables,
+    Caps, GroupKey, GroupRow, GroupRowList, HopTarget, HostAct, HostKey, HostKeyList, HostRow,
+    HostRowList, L2Key, L2Row, L2RowList, Member, MemberList, RouteKey, RouteRow, RouteRowList,
+    Table, Tables,
 };
 pub use sim::SimChip;
 pub use switch::{Full, HwSwitch};
-
-#[cfg(test)]
-mod tests;

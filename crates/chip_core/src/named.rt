@@ -1,12 +1,9 @@
 // The tables of hosts and groups, and the names by which these are found.
 ghost use Rattle.net_types.specs.Derived.{host_order-derived};
-ghost use Rattle.std.specs.Ordering.{nat_cmp};
-ghost use Rattle.keyed.specs.KeyOrders.{lists_order, nat_order};
-ghost use Rattle.chip_core.specs.Slots.{hosts_of};
+ghost use Rattle.net_types.specs.Groups.{group_key_of, group_key_order};
 
-use crate::group_key::GroupKey;
 use crate::slots::{Named, SlotTable};
-use net_types::{GroupRow, HostKey, HostRow};
+use net_types::{GroupKey, GroupRow, HostKey, HostRow};
 
 pub(crate) type HostTable = SlotTable<HostKey, (HostKey, HostRow)>;
 
@@ -23,13 +20,13 @@ impl Named<HostKey> for (HostKey, HostRow) {
     ghost order = { host_order-derived };
 }
 
-/// A group is found by its hosts, in the order of its members.
+/// A group is found by its key.
 impl Named<GroupKey> for GroupRow {
-    ghost name = { hosts_of };
+    ghost name = { group_key_of };
 
     fn name(&self) -> GroupKey {
         GroupKey::of(self.members())
     }
 
-    ghost order = { lists_order nat_cmp nat_order };
+    ghost order = { group_key_order };
 }

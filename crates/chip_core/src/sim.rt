@@ -1,21 +1,22 @@
 // A chip in memory.
-ghost use Rattle.std.specs.Prelude.{◌≡◌, ◌<◌, ◌^◌, ◌↔◌, ◌++◌, ◌∷◌, All, Err, IfOk, IsTrue, OnOk, [], length};
-ghost use Rattle.std.specs.Cmp.Lexicographic.{slice_cmp};
+ghost use Rattle.std.specs.Prelude.{◌≡◌, ◌<◌, ◌^◌, ◌↔◌, ◌++◌, ◌∷◌, All, Err, IfOk, IsTrue, OnOk, [], length, option_copied, slice_get};
+ghost use Rattle.std.specs.Option.{option_map};
 ghost use Rattle.std.specs.Ordering.{nat_cmp};
+ghost use Rattle.keyed.specs.Keyed.{at};
+ghost use Rattle.net_types.specs.Groups.{group_key_cmp, group_key_of};
 ghost use Rattle.chip_core.specs.Chip.{AreLinked, IsImage, empty};
 ghost use Rattle.chip_core.specs.Sim.{AreLinked-prop, tables_of};
-ghost use Rattle.chip_core.specs.Slots.{host_entries, host_rows, hosts_of};
+ghost use Rattle.chip_core.specs.Slots.{host_at, host_entries, host_rows};
 ghost use Rattle.chip_core.specs.Sound.{is_chip};
 ghost use Rattle.chip_core.specs.Tables.{IsGroupRow, IsSlotted, IsSlotted-prop, MembersHeld, RoutesHeld};
 ghost use Rattle.chip_core.specs.Taken.{taken};
 ghost use Rattle.sorted_table.specs.Rows.{IsSorted, IsSorted-prop};
 
-use crate::group_key::GroupKey;
 use crate::named::{GroupTable, HostTable};
 use crate::slots::{Named, SlotTable};
 use crate::{Full, HwSwitch, RowsFault, WriteCount, image};
 use net_types::{
-    Caps, GroupRow, GroupRowList, HostKey, HostRow, HostRowList, ItemList, L2Key, L2Row,
+    Caps, GroupKey, GroupRow, GroupRowList, HostKey, HostRow, HostRowList, ItemList, L2Key, L2Row,
     MemberList, NoMemory, RouteKey, RouteRow, Tables,
 };
 use sorted_table::SortedTable;
@@ -34,8 +35,8 @@ pub struct SimChip {
     ghost l2_sorted: { IsSorted ⟦<L2Key as Ord>⟧.cmp l2.capacity l2.rows } by { IsSorted-prop ⟦<L2Key as Ord>⟧.cmp l2.capacity l2.rows },
     ghost routes_sorted: { IsSorted ⟦<RouteKey as Ord>⟧.cmp routes.capacity routes.rows } by { IsSorted-prop ⟦<RouteKey as Ord>⟧.cmp routes.capacity routes.rows },
     ghost hosts_slotted: { IsSlotted ⟦<HostKey as Ord>⟧.cmp (λ host. host.0) hosts.capacity hosts.rows } by { IsSlotted-prop ⟦<HostKey as Ord>⟧.cmp (λ host. host.0) hosts.capacity hosts.rows },
-    ghost groups_slotted: { IsSlotted (slice_cmp nat_cmp) hosts_of groups.capacity groups.rows } by { IsSlotted-prop (slice_cmp nat_cmp) hosts_of groups.capacity groups.rows },
-    ghost linked: { AreLinked (tables_of l2.rows hosts.rows groups.rows routes.rows) } by { AreLinked-prop (tables_of l2.rows hosts.rows groups.rows routes.rows) },
+    ghost groups_slotted: { IsSlotted group_key_cmp group_key_of groups.capacity groups.rows } by { IsSlotted-prop group_key_cmp group_key_of groups.capacity groups.rows },
+    ghost linked: { AreLinked (tables_of (record { l2 = l2.rows; host = hosts.rows; group = groups.rows; route = routes.rows })) } by { AreLinked-prop (tables_of (record { l2 = l2.rows; host = hosts.rows; group = groups.rows; route = routes.rows })) },
 }
 
 impl SimChip {
@@ -97,10 +98,47 @@ impl SimChip {
             writes: WriteCount::new(),
         })
     }
+
+    /// The l2 row at that place by ascending key, counted from 0: none exactly past the end.
+    pub fn l2_at(&self, n: usize) -> Option<(&L2Key, &L2Row)>
+        ensures { option_map (λ row. (row.0.now, row.1.now)) result ≡ slice_get (⟦<SimChip as HwSwitch>⟧.raw self.now).l2 n }
+    {
+        match self.l2.at(n) {
+            Some(row) => Some((&row.0, &row.1)),
+            None => None,
+        }
+    }
+
+    /// The route at that place by ascending key, counted from 0: none exactly past the end.
+    pub fn route_at(&self, n: usize) -> Option<(&RouteKey, &RouteRow)>
+        ensures { option_map (λ row. (row.0.now, row.1.now)) result ≡ slice_get (⟦<SimChip as HwSwitch>⟧.raw self.now).route n }
+    {
+        match self.routes.at(n) {
+            Some(row) => Some((&row.0, &row.1)),
+            None => None,
+        }
+    }
+
+    /// The host in a slot: none exactly where the slot is free.
+    pub fn host_at(&self, slot: u32) -> Option<(&HostKey, &HostRow)>
+        ensures { option_map (λ host. (host.0.now, host.1.now)) result ≡ host_at slot (⟦<SimChip as HwSwitch>⟧.raw self.now).host }
+    {
+        match self.hosts.get(slot) {
+            Some(host) => Some((&host.0, &host.1)),
+            None => None,
+        }
+    }
+
+    /// The group in a slot: none exactly where the slot is free.
+    pub fn group_at(&self, slot: u32) -> Option<&GroupRow>
+        ensures { option_copied result ≡ at nat_cmp slot (⟦<SimChip as HwSwitch>⟧.raw self.now).group }
+    {
+        self.groups.get(slot)
+    }
 }
 
 impl HwSwitch for SimChip {
-    ghost raw = { λ chip. tables_of chip.l2.rows chip.hosts.rows chip.groups.rows chip.routes.rows };
+    ghost raw = { λ chip. tables_of (record { l2 = chip.l2.rows; host = chip.hosts.rows; group = chip.groups.rows; route = chip.routes.rows }) };
 
     ghost caps = { λ chip. record { l2 = chip.l2.capacity; host = chip.hosts.capacity; group = chip.groups.capacity; route = chip.routes.capacity } };
 
@@ -239,7 +277,8 @@ impl HwSwitch for SimChip {
         })
     }
 
-    ghost sound = { λ chip. is_chip chip.l2.capacity chip.hosts.capacity chip.groups.capacity chip.routes.capacity chip.l2.rows chip.hosts.rows chip.groups.rows chip.routes.rows
+    ghost sound = { λ chip. is_chip (record { l2 = chip.l2.capacity; host = chip.hosts.capacity; group = chip.groups.capacity; route = chip.routes.capacity })
+        (record { l2 = chip.l2.rows; host = chip.hosts.rows; group = chip.groups.rows; route = chip.routes.rows })
         chip.l2_sorted
         chip.hosts_slotted
         chip.groups_slotted
@@ -309,10 +348,10 @@ fn group_table(
 ) -> Result<GroupTable, RowsFault>
     ensures rows { IfOk result (λ table. table.rows ≡ groups.now) }
     ensures capacity { IfOk result (λ table. table.capacity ≡ capacity) }
-    ensures slotted { IfOk result (λ table. IsSlotted (slice_cmp nat_cmp) hosts_of table.capacity table.rows) }
+    ensures slotted { IfOk result (λ table. IsSlotted group_key_cmp group_key_of table.capacity table.rows) }
     ensures groups { OnOk result (All (λ group. IsGroupRow group.1) groups.now) }
     ensures bad { result ≡ Err RowsFault.BadRows
-        → ¬ (IsSlotted (slice_cmp nat_cmp) hosts_of capacity groups.now × All (λ group. IsGroupRow group.1) groups.now) }
+        → ¬ (IsSlotted group_key_cmp group_key_of capacity groups.now × All (λ group. IsGroupRow group.1) groups.now) }
 {
     let rows = match image::group_rows(alloc, groups) {
         Ok(rows) => rows,

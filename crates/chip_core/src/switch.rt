@@ -3,12 +3,13 @@ ghost use Rattle.std.specs.Prelude.{◌≡◌, ◌<◌, ◌↔◌, ◌+◌, ℕ,
 ghost use Rattle.std.specs.Option.{option_map};
 ghost use Rattle.std.specs.Ordering.{nat_cmp};
 ghost use Rattle.keyed.specs.Keyed.{at, put, without};
+ghost use Rattle.net_types.specs.Groups.{group_key_of};
 ghost use Rattle.net_types.specs.KeyOrder.{l2_cmp, route_cmp};
 ghost use Rattle.net_types.specs.declared.table.Caps.{Caps as CapsValue};
 ghost use Rattle.net_types.specs.declared.table.Tables.{Tables as TablesValue};
 ghost use Rattle.chip_core.specs.Chip.{IsChip};
 ghost use Rattle.chip_core.specs.References.{AreMembersHeld, IsRouteHeld, IsUnusedHost, IsUnusedGroup};
-ghost use Rattle.chip_core.specs.Slots.{IsLowestFree, group_slot_of, host_at, host_entries, hosts_of, put_host, set_host, slot_of, without_host};
+ghost use Rattle.chip_core.specs.Slots.{IsLowestFree, group_slot_of, host_at, host_entries, put_host, set_host, slot_of, without_host};
 
 use net_types::{GroupRow, HostKey, HostRow, L2Key, L2Row, NoMemory, RouteKey, RouteRow, Tables};
 use std::alloc::Global;
@@ -53,7 +54,7 @@ pub trait HwSwitch: Drop {
     /// Adds a group whose hosts are there, and that isn't, and answers its slot: the lowest free
     /// one. Where the table is full the row is dropped.
     fn add_group(&mut self, row: GroupRow) -> Result<u32, Full>
-        requires absent { group_slot_of (hosts_of row) (raw self.old).group ≡ None }
+        requires absent { group_slot_of (group_key_of row) (raw self.old).group ≡ None }
         requires held { AreMembersHeld (raw self.old) row }
         ensures full { IsErr result ↔ (length (raw self.old).group ≡ (caps self.old).group) }
         ensures slot { IfOk result (λ slot. IsLowestFree slot (raw self.old).group) }
@@ -89,9 +90,9 @@ pub trait HwSwitch: Drop {
         ensures caps { caps self.new ≡ caps self.old }
         ensures writes { writes self.new ≡ writes self.old + 1 };
 
-    /// Puts another row with the same hosts in the slot of a group, and hands the old row back.
+    /// Puts another row with the same key in the slot of a group, and hands the old row back.
     fn set_group(&mut self, slot: u32, row: GroupRow) -> GroupRow
-        requires { option_map hosts_of (at nat_cmp slot (raw self.old).group) ≡ Some (hosts_of row) }
+        requires { option_map group_key_of (at nat_cmp slot (raw self.old).group) ≡ Some (group_key_of row) }
         ensures raw { raw self.new ≡ record (raw self.old) { group = put nat_cmp slot row (raw self.old).group } }
         ensures old { at nat_cmp slot (raw self.old).group ≡ Some result }
         ensures caps { caps self.new ≡ caps self.old }
@@ -151,7 +152,7 @@ pub trait HwSwitch: Drop {
 
     /// Adds a group in that free slot, where the caller knows that there is room.
     fn put_back_group(&mut self, slot: u32, row: GroupRow)
-        requires absent { group_slot_of (hosts_of row) (raw self.old).group ≡ None }
+        requires absent { group_slot_of (group_key_of row) (raw self.old).group ≡ None }
         requires held { AreMembersHeld (raw self.old) row }
         requires free { at nat_cmp slot (raw self.old).group ≡ None }
         requires below { slot < (caps self.old).group }

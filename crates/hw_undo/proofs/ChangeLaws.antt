@@ -2,6 +2,9 @@
 use Rattle.std.proofs.Common.{◌≡◌, ◌≢◌, ◌≤◌, ◌<◌, ◌+◌, ℕ, Bool, suc, List, [], ◌∷◌, Option, None, Some, IsSome, length, drop, get_or, drop-cons, add-one, refl, sym, ap, ◌∙◌, subst, arith, inl, inr}
 use Rattle.std.specs.declared.cmp.Ordering.{Ordering}
 use Rattle.std.specs.declared.cmp.Ordering.TheVariants.{Less, Equal}
+use Rattle.std.specs.List.{slice_get}
+use Rattle.std.proofs.lemmas.Option.{slice_get-get_or}
+use Rattle.hw_undo.specs.Undo.{GroupChanges, IsListed}
 use Rattle.keyed.specs.Keyed.{IsKeyOrder, at, put, without, Ascends, IsBelow}
 use Rattle.keyed.specs.KeyedLaws.{by_order, decide, same, at-put, at-put_other, at-without, at-without_other, ascends-put, ascends-without, length-put, length-put_new}
 use Rattle.net_types.specs.Rows.{Rows}
@@ -215,3 +218,7 @@ module _ {K : Type 0} (cmp : K → K → Ordering) (order : IsKeyOrder cmp) {V :
     add-full most rest next c before goal is whole full =
         let all : adds cmp next (add_one cmp c.0 c.2 (get before)) ≡ get goal = ap (λ (x : List (Change K V)). adds cmp x (get before)) (sym is) ∙ sym (got before (adds cmp rest (get before))) ∙ ap get whole in
         omega (arith, length-adds next (add_one cmp c.0 c.2 (get before)), ap (length {A = K × V}) all)
+
+-- a change that was read is listed at its place
+pub listed-at : (changes : GroupChanges) (place : ℕ) (c : Change (List HostKey) (List Bool)) → place < length changes → c ≡ get_or changes place c → (groups : GroupChanges) → groups ≡ changes → IsListed groups place c.0 c.1
+listed-at changes place c lt is groups same = record { new = c.2; is = ap (λ (l : GroupChanges). slice_get l place) same ∙ slice_get-get_or changes place c lt ∙ ap Some (sym is) }

@@ -1,14 +1,14 @@
 -- What leads to hosts and groups, by slots and by keys.
 use Rattle.std.proofs.Common.{◌≡◌, ◌≤◌, ℕ, Bool, List, ◌∷◌, All, Option, None, Some, IsSome, length, get_or, refl, sym, ap, ◌∙◌, subst, arith}
-use Rattle.std.specs.Cmp.Lexicographic.{slice_cmp}
 use Rattle.std.specs.Option.{option_map, option_map_or}
 use Rattle.std.specs.Ordering.{nat_cmp}
 use Rattle.keyed.specs.Keyed.{at, without, Ascends}
 use Rattle.std.proofs.lemmas.List.{length-map}
-use Rattle.keyed.specs.KeyOrders.{lists_order, nat_order}
+use Rattle.keyed.specs.KeyOrders.{nat_order}
 use Rattle.keyed.specs.KeyedLaws.{at-with_values, at-without}
 use Rattle.keyed.specs.EachLaws.{named-at}
 use Rattle.keyed.specs.NamedLaws.{key_of-at}
+use Rattle.net_types.specs.Groups.{group_key_cmp, group_key_of, group_key_order}
 use Rattle.net_types.specs.KeyOrder.{group_cmp, group_order, host_cmp, host_order, route_cmp, route_order}
 use Rattle.net_types.specs.Rows.{Rows}
 use Rattle.net_types.specs.declared.group.Member.{Member}
@@ -21,16 +21,19 @@ use Rattle.net_types.specs.declared.table.RouteRow.{RouteRow}
 use Rattle.net_types.specs.declared.table.RouteRow.TheVariants.{Host, Group, ToCpu, Discard}
 use Rattle.net_types.specs.declared.table.Tables.{Tables}
 use Rattle.chip_core.specs.ChangeLists.{Change, IsAscending}
-use Rattle.chip_core.specs.Changes.{IsClosed, IsTargetKnown, adds, remove_one, removes}
+use Rattle.net_types.specs.Closed.{IsClosed, IsTargetKnown}
+use Rattle.chip_core.specs.Changes.{adds, remove_one, removes}
 use Rattle.chip_core.specs.Chip.{IsConsistent, key_in, keys_of, marks_of, target_of, view_of}
 use Rattle.chip_core.specs.References.{IsRouteHeld, IsUnusedGroup, IsUnusedHost}
 use Rattle.chip_core.specs.Slots.{group_slot_of, host_at, host_entries, hosts_of, slot_of}
+use Rattle.hw_undo.specs.Undo.{GroupChanges, IsListed}
+use Rattle.hw_undo.specs.Targets.{LeadsTo}
+use Rattle.hw_undo.proofs.Undoing.{held-route}
 use Rattle.hw_undo.proofs.ChangeLaws.{ascends-remove, at-adds_first, there-remove, there-removes}
-use Rattle.hw_undo.proofs.GatheredLaws.{at-gathered, at-gathered_none, found-gathered, key_of-gathered_none}
-use Rattle.hw_undo.proofs.Lists.{none-some, some-is, some-value}
-use Rattle.hw_undo.proofs.Slots.{AreSlotsOf, distinct-keys, key-of_member, keys-slots, member-of_key, slots-keys, slots-length, slots-told}
-use Rattle.hw_undo.proofs.Undoing.{some, some-none}
-use Rattle.hw_undo.proofs.Views.{group_entry, sorted-view}
+use Rattle.chip_core.specs.GatheredLaws.{at-gathered, at-gathered_none, found-gathered, key_of-gathered_none}
+use Rattle.chip_core.specs.ListLaws.{none-some, some, some-is, some-none, some-value}
+use Rattle.chip_core.specs.MemberSlots.{AreSlotsOf, distinct-keys, key-of_member, keys-slots, member-of_key, slots-keys, slots-length, slots-told}
+use Rattle.chip_core.specs.ViewLaws.{group-seen, group_entry, key-seen, sorted-view}
 
 -- a host that the view has stands in the slot that is found
 pub host-missed : (raw : Tables) (key : HostKey) → IsSome (at host_cmp key (view_of raw).host) → slot_of key raw.host ≡ None → ⊥
@@ -56,20 +59,16 @@ host-absent raw key absent = key_of-gathered_none nat_cmp nat_order host_cmp hos
 pub host-replaced : (o : Option (HostKey × HostRow)) (key : HostKey) (row old : HostRow) → o ≡ Some (key, row) → option_map (λ h. h.1) o ≡ Some old → o ≡ Some (key, old)
 host-replaced o key row old is replaced = is ∙ ap (λ (r : HostRow). Some (key, r)) (some-is (sym (ap (option_map (λ (h : HostKey × HostRow). h.1)) is) ∙ replaced))
 
--- a group with its keys, and marks, in the view
-pub group-seen : (raw : Tables) (slot : ℕ) (members : List Member) → IsConsistent raw → at nat_cmp slot raw.group ≡ Some members → at group_cmp (keys_of raw.host members) (view_of raw).group ≡ Some (marks_of members)
-group-seen raw slot members chip there = at-gathered nat_cmp nat_order group_cmp group_order (group_entry raw.host) slot members raw.group (distinct-keys raw chip) there
-
 pub route-seen : (raw : Tables) (key : RouteKey) (row : RouteRow) → at route_cmp key raw.route ≡ Some row → at route_cmp key (view_of raw).route ≡ Some (target_of raw row)
 route-seen raw key row there = at-with_values route_cmp route_order (target_of raw) key raw.route ∙ ap (option_map (target_of raw)) there
 
-pub group-absent : (raw : Tables) (row : List Member) (keys : List HostKey) → IsConsistent raw → AreSlotsOf raw.host (hosts_of row) keys → at group_cmp keys (view_of raw).group ≡ None → group_slot_of (hosts_of row) raw.group ≡ None
-group-absent raw row keys chip slots absent = missed (group_slot_of (hosts_of row) raw.group) refl
+pub group-absent : (raw : Tables) (row : List Member) (keys : List HostKey) → IsConsistent raw → AreSlotsOf raw.host (hosts_of row) keys → at group_cmp keys (view_of raw).group ≡ None → group_slot_of (group_key_of row) raw.group ≡ None
+group-absent raw row keys chip slots absent = missed (group_slot_of (group_key_of row) raw.group) refl
   where
-    missed : (o : Option ℕ) → group_slot_of (hosts_of row) raw.group ≡ o → group_slot_of (hosts_of row) raw.group ≡ None
+    missed : (o : Option ℕ) → group_slot_of (group_key_of row) raw.group ≡ o → group_slot_of (group_key_of row) raw.group ≡ None
     missed None is = is
     missed (Some slot) is =
-        let there = named-at nat_cmp nat_order (slice_cmp nat_cmp) (lists_order nat_cmp nat_order) hosts_of (hosts_of row) slot raw.group chip.keys.group is in
+        let there = named-at nat_cmp nat_order group_key_cmp group_key_order group_key_of (hosts_of row) slot raw.group chip.keys.group is in
         let named : keys_of raw.host there.0 ≡ keys = keys-slots raw.host there.0 keys (subst (λ (l : List ℕ). AreSlotsOf raw.host l keys) (sym there.1.1) slots) in
         let seen : at group_cmp keys (view_of raw).group ≡ Some (marks_of there.0) = subst (λ (l : List HostKey). at group_cmp l (view_of raw).group ≡ Some (marks_of there.0)) named (group-seen raw slot there.0 chip there.1.0) in
         absurd (none-some (sym absent ∙ seen))
@@ -81,13 +80,13 @@ group-missed raw keys slots chip there is none =
     let group = found-gathered nat_cmp nat_order group_cmp group_order (group_entry raw.host) keys marks.0 raw.group chip.keys.group marks.1 in
     let own : AreSlotsOf raw.host (hosts_of group.value) keys = subst (AreSlotsOf raw.host (hosts_of group.value)) group.named (slots-keys raw.host group.value (chip.links.members.each group.key group.value group.there)) in
     let same : hosts_of group.value ≡ slots = slots-told raw.host (hosts_of group.value) slots keys chip.keys.host_keys own is in
-    let found : group_slot_of slots raw.group ≡ Some group.key = ap (λ (l : List ℕ). group_slot_of l raw.group) (sym same) ∙ key_of-at nat_cmp nat_order (slice_cmp nat_cmp) (lists_order nat_cmp nat_order) hosts_of group.key group.value raw.group chip.keys.group_keys group.there in
+    let found : group_slot_of slots raw.group ≡ Some group.key = ap (λ (l : List ℕ). group_slot_of l raw.group) (sym same) ∙ key_of-at nat_cmp nat_order group_key_cmp group_key_order group_key_of group.key group.value raw.group chip.keys.group_keys group.there in
     none-some (sym none ∙ found)
 
-pub group-found : (raw : Tables) (slots : List ℕ) (slot : ℕ) → IsConsistent raw → group_slot_of slots raw.group ≡ Some slot → option_map hosts_of (at nat_cmp slot raw.group) ≡ Some slots
+pub group-found : (raw : Tables) (slots : List ℕ) (slot : ℕ) → IsConsistent raw → group_slot_of slots raw.group ≡ Some slot → option_map group_key_of (at nat_cmp slot raw.group) ≡ Some slots
 group-found raw slots slot chip found =
-    let there = named-at nat_cmp nat_order (slice_cmp nat_cmp) (lists_order nat_cmp nat_order) hosts_of slots slot raw.group chip.keys.group found in
-    ap (option_map hosts_of) there.1.0 ∙ ap Some there.1.1
+    let there = named-at nat_cmp nat_order group_key_cmp group_key_order group_key_of slots slot raw.group chip.keys.group found in
+    ap (option_map group_key_of) there.1.0 ∙ ap Some there.1.1
 
 -- the members in the slot that was found
 pub record IsGroupThere (raw : Tables) (keys : List HostKey) (slots : List ℕ) (slot : ℕ) : Type 0 where
@@ -96,10 +95,10 @@ pub record IsGroupThere (raw : Tables) (keys : List HostKey) (slots : List ℕ) 
   pub hosts : hosts_of members ≡ slots
   pub named : keys_of raw.host members ≡ keys
 
-pub group-there : (raw : Tables) (keys : List HostKey) (slots : List ℕ) (slot : ℕ) → AreSlotsOf raw.host slots keys → option_map hosts_of (at nat_cmp slot raw.group) ≡ Some slots → IsGroupThere raw keys slots slot
+pub group-there : (raw : Tables) (keys : List HostKey) (slots : List ℕ) (slot : ℕ) → AreSlotsOf raw.host slots keys → option_map group_key_of (at nat_cmp slot raw.group) ≡ Some slots → IsGroupThere raw keys slots slot
 group-there raw keys slots slot own is = there (at nat_cmp slot raw.group) refl is
   where
-    there : (o : Option (List Member)) → at nat_cmp slot raw.group ≡ o → option_map hosts_of o ≡ Some slots → IsGroupThere raw keys slots slot
+    there : (o : Option (List Member)) → at nat_cmp slot raw.group ≡ o → option_map group_key_of o ≡ Some slots → IsGroupThere raw keys slots slot
     there None held named = absurd (none-some named)
     there (Some members) held named = record {
       members = members;
@@ -137,14 +136,6 @@ group-unused raw slot members keys chip there named closed =
           let target : target_of raw r ≡ HopGroup keys = ap (target_of raw) leads ∙ ap (λ (o : Option (List Member)). option_map_or (λ members. HopGroup (keys_of raw.host members)) o HopDiscard) there ∙ ap HopGroup named in
           gone (subst (IsTargetKnown (record (view_of raw) { group = without group_cmp keys (view_of raw).group })) target (closed.route.each k (target_of raw r) (route-seen raw k r held)));
     }
-
--- a key in a slot is one of the view
-pub key-seen : (raw : Tables) (slot : ℕ) (key : HostKey) → IsConsistent raw → key_in raw.host slot ≡ Some key → IsSome (at host_cmp key (view_of raw).host)
-key-seen raw slot key chip named = seen (host_at slot raw.host) refl named
-  where
-    seen : (o : Option (HostKey × HostRow)) → host_at slot raw.host ≡ o → option_map (λ h. h.0) o ≡ Some key → IsSome (at host_cmp key (view_of raw).host)
-    seen None there is = absurd (none-some is)
-    seen (Some h) there is = subst (λ (k : HostKey). IsSome (at host_cmp k (view_of raw).host)) (some-is is) (some _ h.1 (at-gathered nat_cmp nat_order host_cmp host_order (λ (h : HostKey × HostRow). h) slot h (host_entries raw.host) chip.keys.host_keys there))
 
 target-known : (raw : Tables) (row : RouteRow) → IsConsistent raw → IsRouteHeld raw row → IsTargetKnown (view_of raw) (target_of raw row)
 target-known raw (Host slot) chip held = known (host_at slot raw.host) refl held
@@ -266,3 +257,19 @@ target-host raw slot key row there = ap (λ (o : Option (HostKey × HostRow)). o
 
 pub target-group : (raw : Tables) (slot : ℕ) (members : List Member) (keys : List HostKey) → at nat_cmp slot raw.group ≡ Some members → keys_of raw.host members ≡ keys → target_of raw (Group slot) ≡ HopGroup keys
 target-group raw slot members keys there named = ap (λ (o : Option (List Member)). option_map_or (λ members. HopGroup (keys_of raw.host members)) o HopDiscard) there ∙ ap HopGroup named
+
+-- a group that is listed with the row that the view has is listed with the marks of its members
+pub listed-as : (raw : Tables) (slot : ℕ) (members : List Member) (keys : List HostKey) → IsConsistent raw → at nat_cmp slot raw.group ≡ Some members → keys_of raw.host members ≡ keys → (groups : GroupChanges) (place : ℕ) → IsListed groups place keys (at group_cmp keys (view_of raw).group) → IsListed groups place keys (Some (marks_of members))
+listed-as raw slot members keys chip there named groups place listed =
+    let seen : at group_cmp keys (view_of raw).group ≡ Some (marks_of members) = subst (λ (k : List HostKey). at group_cmp k (view_of raw).group ≡ Some (marks_of members)) named (group-seen raw slot members chip there) in
+    subst (IsListed groups place keys) seen listed
+
+-- a row leads where it led, whatever routes there are
+pub leads-kept : (raw s : Tables) (routes : List (RouteKey × RouteRow)) (row : RouteRow) (target : HopTarget) → s ≡ record raw { route = routes } → LeadsTo raw row target → LeadsTo s row target
+leads-kept raw s routes row target is leads = subst (λ (x : Tables). LeadsTo x row target) (sym is) (record { is = same row ∙ leads.is; held = held-route raw routes row leads.held })
+  where
+    same : (r : RouteRow) → target_of (record raw { route = routes }) r ≡ target_of raw r
+    same (Host slot) = refl
+    same (Group slot) = refl
+    same ToCpu = refl
+    same Discard = refl

@@ -1,11 +1,9 @@
 pub mod RollBack
 pub mod ChangeLaws
-pub mod Lists
-pub mod GatheredLaws
 pub mod Undoing
-pub mod Slots
 pub mod Views
 pub mod Leads
 pub mod PhaseLaws
 pub mod Whole
 pub mod Steps
+pub mod TargetTests

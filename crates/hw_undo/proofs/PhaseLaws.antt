@@ -10,7 +10,7 @@ use Rattle.chip_core.specs.Changes.{AreOld, add_one, adds, changed, remove_one, 
 use Rattle.hw_undo.specs.Counts.{new_rows_in, old_rows_in, removals_in, rows_in, sum_over}
 use Rattle.hw_undo.specs.Phases.{AreGone, AreReady, cuts, old_if}
 use Rattle.hw_undo.proofs.ChangeLaws.{IsApart, apart, ascends-adds, ascends-cuts, ascends-remove, ascends-removes, at-add_other, at-remove_other, at-remove_same, gone-add, old-remove}
-use Rattle.hw_undo.proofs.Lists.{none-some}
+use Rattle.chip_core.specs.ListLaws.{none-some}
 
 is_same : {K : Type 0} (cmp : K → K → Ordering) → IsKeyOrder cmp → (q k : K) → q ≡ k → is_eq (cmp q k) ≡ true
 is_same {K} cmp order q k e = ap (λ (x : K). is_eq (cmp q x)) (sym e) ∙ ap is_eq (same cmp order q)

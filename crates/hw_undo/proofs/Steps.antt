@@ -1,8 +1,9 @@
 -- The steps of a commit, table by table, over the lists that the changes give.
-use Rattle.std.proofs.Common.{◌≡◌, ◌<◌, Bool, true, false, List, None, Some, Result, Ok, Err, length, sym, ap, ◌∙◌, subst, arith}
+use Rattle.std.proofs.Common.{◌≡◌, ◌<◌, Bool, true, false, List, [], ◌∷◌, None, Some, Result, Ok, Err, length, sym, ap, ◌∙◌, subst, arith}
 use Rattle.std.specs.Result.{OnErr, OnOk, is_err}
 use Rattle.std.specs.declared.cmp.Ordering.{Ordering}
-use Rattle.net_types.specs.Capacity.{over}
+use Rattle.net_types.specs.Capacity.{Filling, over}
+use Rattle.net_types.specs.CapacityLaws.{first-over, none-over}
 use Rattle.net_types.specs.Derived.{host-derived, route-derived}
 use Rattle.net_types.specs.KeyOrder.{l2_cmp, group_cmp, host_cmp, route_cmp}
 use Rattle.net_types.specs.Rows.{Rows}
@@ -17,11 +18,12 @@ use Rattle.net_types.specs.declared.table.L2Row.{L2Row}
 use Rattle.net_types.specs.declared.table.RouteKey.{RouteKey}
 use Rattle.net_types.specs.declared.table.Table.TheVariants.{L2, Host, Group, Route}
 use Rattle.chip_core.specs.ChangeLists.{Change, IsAscending}
-use Rattle.chip_core.specs.Changes.{AreOld, IsClosed, adds, changed_rows, removes}
+use Rattle.chip_core.specs.Changes.{AreOld, adds, changed_rows, removes}
+use Rattle.net_types.specs.Closed.{IsClosed}
 use Rattle.chip_core.specs.declared.changes.RowChanges.{RowChanges}
 use Rattle.hw_undo.specs.Phases.{AreAscending, AreGone, AreReady, AreReadyRows, cuts, remaining, with_new}
-use Rattle.hw_undo.proofs.Views.{IsSortedView}
-use Rattle.hw_undo.proofs.Whole.{IsWithinView, closed-left, closed-with_hosts, closed-without_new_routes, over-group, over-host, over-l2, over-none, over-route}
+use Rattle.net_types.specs.Differ.{AscendRows}
+use Rattle.hw_undo.proofs.Whole.{IsWithinView, closed-left, closed-with_hosts, closed-without_new_routes}
 
 abbrev L2s : Type 0
 L2s = List (Change L2Key L2Row)
@@ -66,7 +68,7 @@ module _ (changes : RowChanges) (l2s : L2s) (hosts : Hosts) (groups : Groups) (r
     cut_routes = first ∙ ap (λ (x : Routes). record rows { route = cuts route_cmp x rows.route }) route_is
 
     -- the groups' deletions lead to closed rows
-    pub group-phase : AreAscending changes → IsSortedView rows → IsClosed rows → IsClosed (changed_rows changes rows) → IsClosed (record without_routes { group = removes group_cmp groups without_routes.group })
+    pub group-phase : AreAscending changes → AscendRows rows → IsClosed rows → IsClosed (changed_rows changes rows) → IsClosed (record without_routes { group = removes group_cmp groups without_routes.group })
     group-phase ascending sorted before after =
         let is : record without_routes { group = removes group_cmp groups without_routes.group } ≡ record rows { group = removes group_cmp changes.group rows.group; route = cuts route_cmp changes.route rows.route } =
         ap (λ (r : Rows). record r { group = removes group_cmp groups r.group }) cut_routes
@@ -80,7 +82,7 @@ module _ (changes : RowChanges) (l2s : L2s) (hosts : Hosts) (groups : Groups) (r
           ∙ ap (λ (x : Groups). record rows { group = removes group_cmp x rows.group; route = cuts route_cmp changes.route rows.route }) group_is
 
       -- and so do the hosts'
-      pub host-phase : AreAscending changes → IsSortedView rows → IsClosed rows → IsClosed (changed_rows changes rows) → IsClosed (record without_groups { host = removes host_cmp hosts without_groups.host })
+      pub host-phase : AreAscending changes → AscendRows rows → IsClosed rows → IsClosed (changed_rows changes rows) → IsClosed (record without_groups { host = removes host_cmp hosts without_groups.host })
       host-phase ascending sorted before after =
           let is : record without_groups { host = removes host_cmp hosts without_groups.host } ≡ record rows { host = removes host_cmp changes.host rows.host; group = removes group_cmp changes.group rows.group; route = cuts route_cmp changes.route rows.route } =
           ap (λ (r : Rows). record r { host = removes host_cmp hosts r.host }) cut_groups
@@ -120,7 +122,7 @@ module _ (changes : RowChanges) (l2s : L2s) (hosts : Hosts) (groups : Groups) (r
           ∙ ap (λ (x : Hosts). record rows { l2 = new.l2; host = adds host_cmp x rows.host }) host_is
 
       -- the hosts of new groups are there
-      pub group-ahead : AreAscending changes → IsSortedView rows → AreReadyRows changes rows → IsClosed new → IsClosed (record with_hosts { group = adds group_cmp groups with_hosts.group })
+      pub group-ahead : AreAscending changes → AscendRows rows → AreReadyRows changes rows → IsClosed new → IsClosed (record with_hosts { group = adds group_cmp groups with_hosts.group })
       group-ahead ascending sorted ready closed =
           let is : record with_hosts { group = adds group_cmp groups with_hosts.group } ≡ record new { route = rows.route } =
           ap (λ (r : Rows). record r { group = adds group_cmp groups r.group }) hosts-added
@@ -156,19 +158,37 @@ err_of (Err x) e p = p
 
 -- a table that has no room is the first that is too small, where the ones before it fit
 module _ (caps : Caps) (new : Rows) where
+  abbrev in_l2 : Filling
+  in_l2 = record { table = L2; rows = length new.l2; room = caps.l2 }
+
+  abbrev in_host : Filling
+  in_host = record { table = Host; rows = length new.host; room = caps.host }
+
+  abbrev in_group : Filling
+  in_group = record { table = Group; rows = length new.group; room = caps.group }
+
+  abbrev in_route : Filling
+  in_route = record { table = Route; rows = length new.route; room = caps.route }
+
   pub full-l2 : (now : Caps) (l : List (L2Key × L2Row)) → now ≡ caps → l ≡ new.l2 → now.l2 < length l → over new caps ≡ Some L2
-  full-l2 now l same is full = over-l2 new caps (omega (arith, full, ap (λ (c : Caps). c.l2) same, ap (length {A = L2Key × L2Row}) is))
+  full-l2 now l same is full = first-over [] in_l2 (in_host ∷ in_group ∷ in_route ∷ []) tt (omega (arith, full, ap (λ (c : Caps). c.l2) same, ap (length {A = L2Key × L2Row}) is))
 
   pub full-host : (now : Caps) (l : List (HostKey × HostRow)) (with_l2 : Rows) → now ≡ caps → l ≡ new.host → IsWithinView caps with_l2 → with_l2.l2 ≡ new.l2 → now.host < length l → over new caps ≡ Some Host
-  full-host now l with_l2 same is within l2 full = over-host new caps (omega (arith, within.l2, ap (length {A = L2Key × L2Row}) l2)) (omega (arith, full, ap (λ (c : Caps). c.host) same, ap (length {A = HostKey × HostRow}) is))
+  full-host now l with_l2 same is within l2 full = first-over (in_l2 ∷ []) in_host (in_group ∷ in_route ∷ [])
+      (omega (arith, within.l2, ap (length {A = L2Key × L2Row}) l2), tt)
+      (omega (arith, full, ap (λ (c : Caps). c.host) same, ap (length {A = HostKey × HostRow}) is))
 
   pub full-group : (now : Caps) (l : List (List HostKey × List Bool)) (with_hosts : Rows) → now ≡ caps → l ≡ new.group → IsWithinView caps with_hosts → with_hosts.l2 ≡ new.l2 → with_hosts.host ≡ new.host → now.group < length l → over new caps ≡ Some Group
-  full-group now l with_hosts same is within l2 hosts full = over-group new caps (omega (arith, within.l2, ap (length {A = L2Key × L2Row}) l2)) (omega (arith, within.host, ap (length {A = HostKey × HostRow}) hosts)) (omega (arith, full, ap (λ (c : Caps). c.group) same, ap (length {A = List HostKey × List Bool}) is))
+  full-group now l with_hosts same is within l2 hosts full = first-over (in_l2 ∷ in_host ∷ []) in_group (in_route ∷ [])
+      (omega (arith, within.l2, ap (length {A = L2Key × L2Row}) l2), (omega (arith, within.host, ap (length {A = HostKey × HostRow}) hosts), tt))
+      (omega (arith, full, ap (λ (c : Caps). c.group) same, ap (length {A = List HostKey × List Bool}) is))
 
   pub full-route : (now : Caps) (l : List (RouteKey × HopTarget)) (with_groups : Rows) → now ≡ caps → l ≡ new.route → IsWithinView caps with_groups → with_groups.l2 ≡ new.l2 → with_groups.host ≡ new.host → with_groups.group ≡ new.group → now.route < length l → over new caps ≡ Some Route
-  full-route now l with_groups same is within l2 hosts groups full = over-route new caps (omega (arith, within.l2, ap (length {A = L2Key × L2Row}) l2)) (omega (arith, within.host, ap (length {A = HostKey × HostRow}) hosts)) (omega (arith, within.group, ap (length {A = List HostKey × List Bool}) groups)) (omega (arith, full, ap (λ (c : Caps). c.route) same, ap (length {A = RouteKey × HopTarget}) is))
+  full-route now l with_groups same is within l2 hosts groups full = first-over (in_l2 ∷ in_host ∷ in_group ∷ []) in_route []
+      (omega (arith, within.l2, ap (length {A = L2Key × L2Row}) l2), (omega (arith, within.host, ap (length {A = HostKey × HostRow}) hosts), (omega (arith, within.group, ap (length {A = List HostKey × List Bool}) groups), tt)))
+      (omega (arith, full, ap (λ (c : Caps). c.route) same, ap (length {A = RouteKey × HopTarget}) is))
 
   pub fits : (whole : Rows) → IsWithinView caps whole → whole ≡ new → over new caps ≡ None
   fits whole within is =
       let in_new : IsWithinView caps new = subst (IsWithinView caps) is within in
-      over-none new caps in_new.l2 in_new.host in_new.group in_new.route
+      none-over (in_l2 ∷ in_host ∷ in_group ∷ in_route ∷ []) (in_new.l2, (in_new.host, (in_new.group, (in_new.route, tt))))

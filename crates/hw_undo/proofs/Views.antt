@@ -23,32 +23,14 @@ use Rattle.chip_core.specs.Chip.{IsConsistent, key_in, keys_of, marks_of, target
 use Rattle.chip_core.specs.References.{IsUnusedGroup, IsUnusedHost}
 use Rattle.chip_core.specs.Slots.{Groups, Hosts, host_at, host_entries, host_rows, put_host, set_host, without_host}
 use Rattle.chip_core.specs.SlotsLaws.{Entries, entries-rows, host_at-rows}
-use Rattle.hw_undo.proofs.GatheredLaws.{gathered-put, gathered-same, gathered-set, gathered-without, key_of-gathered_none, length-gathered_distinct, ascends-gathered, with_values-same}
-use Rattle.hw_undo.proofs.Slots.{distinct-keys, keys-same}
+use Rattle.chip_core.specs.ViewLaws.{group_entry}
+use Rattle.chip_core.specs.GatheredLaws.{gathered-put, gathered-same, gathered-set, gathered-without, key_of-gathered_none, length-gathered_distinct, ascends-gathered, with_values-same}
+use Rattle.chip_core.specs.MemberSlots.{distinct-keys, keys-same}
 use Rattle.hw_undo.proofs.Undoing.{set_host-is, set_host-keys}
 
 -- the rows of each table make the rows
 rows-same : (a b : Rows) → a.l2 ≡ b.l2 → a.host ≡ b.host → a.group ≡ b.group → a.route ≡ b.route → a ≡ b
 rows-same a b l2 host group route = λ i. record { l2 = l2 i; host = host i; group = group i; route = route i }
-
--- a group as an entry of the view
-abbrev pub group_entry : Hosts → List Member → List HostKey × List Bool
-group_entry hosts members = (keys_of hosts members, marks_of members)
-
--- a chip's view ascends by key
-pub record IsSortedView (rows : Rows) : Type 0 where
-  pub l2 : Ascends l2_cmp rows.l2
-  pub host : Ascends host_cmp rows.host
-  pub group : Ascends group_cmp rows.group
-  pub route : Ascends route_cmp rows.route
-
-pub sorted-view : (raw : Tables) → IsConsistent raw → IsSortedView (view_of raw)
-sorted-view raw chip = record {
-  l2 = chip.keys.l2;
-  host = ascends-gathered nat_cmp nat_order host_cmp host_order (λ (h : HostKey × HostRow). h) (host_entries raw.host);
-  group = ascends-gathered nat_cmp nat_order group_cmp group_order (group_entry raw.host) raw.group;
-  route = ascends-with_values route_cmp (target_of raw) raw.route chip.keys.route;
-}
 
 -- what a route leads to stays, where the slots that it leads to hold the same
 target-same : (a b : Tables) (row : RouteRow) → ((slot : ℕ) → row ≡ Host slot → key_in a.host slot ≡ key_in b.host slot) → ((slot : ℕ) → row ≡ Group slot → option_map (keys_of a.host) (at nat_cmp slot a.group) ≡ option_map (keys_of b.host) (at nat_cmp slot b.group)) → target_of a row ≡ target_of b row

@@ -12,7 +12,8 @@ use Rattle.net_types.specs.declared.table.L2Row.{L2Row}
 use Rattle.net_types.specs.declared.table.RouteKey.{RouteKey}
 use Rattle.net_types.specs.declared.table.Table.TheVariants.{L2, Host, Group, Route}
 use Rattle.net_types.specs.declared.table.Tables.{Tables}
-use Rattle.chip_core.specs.Changes.{AreOldRows, IsClosed, IsTargetKnown, changed_rows, removes, writes_of}
+use Rattle.chip_core.specs.Changes.{AreOldRows, changed_rows, removes, writes_of}
+use Rattle.net_types.specs.Closed.{IsClosed, IsTargetKnown}
 use Rattle.chip_core.specs.Chip.{IsChip, view_of}
 use Rattle.chip_core.specs.ChipLaws.{view-within}
 use Rattle.chip_core.specs.declared.changes.RowChanges.{RowChanges}
@@ -21,12 +22,11 @@ use Rattle.net_types.specs.Capacity.{over}
 use Rattle.hw_undo.specs.Phases.{AreAscending, AreReadyRows, cuts, remaining, with_new}
 use Rattle.hw_undo.proofs.ChangeLaws.{there-removes}
 use Rattle.hw_undo.proofs.Leads.{closed-more_hosts}
-use Rattle.hw_undo.proofs.Lists.{some-value}
+use Rattle.chip_core.specs.ListLaws.{some, some-value}
 use Rattle.hw_undo.proofs.PhaseLaws.{adds-cuts, after-cuts, before-cuts, gone-cuts, kept-adds, kept-removes, ready-removes, route-writes, table-writes, there-adds}
-use Rattle.hw_undo.proofs.Undoing.{some}
-use Rattle.hw_undo.proofs.Views.{IsSortedView}
+use Rattle.net_types.specs.Differ.{AscendRows}
 
-module _ (changes : RowChanges) (rows : Rows) (ascending : AreAscending changes) (sorted : IsSortedView rows) where
+module _ (changes : RowChanges) (rows : Rows) (ascending : AreAscending changes) (sorted : AscendRows rows) where
   -- the rows that remain once the deletions are made, with any l2 table
   abbrev pub left : List (L2Key × L2Row) → Rows
   left l2 = record { l2 = l2; host = removes host_cmp changes.host rows.host; group = removes group_cmp changes.group rows.group; route = cuts route_cmp changes.route rows.route }
@@ -84,22 +84,6 @@ module _ (changes : RowChanges) (rows : Rows) (ascending : AreAscending changes)
       known (HopGroup keys) there = there
       known HopCpu there = tt
       known HopDiscard there = tt
-
--- the first table that is too small
-pub over-l2 : (rows : Rows) (caps : Caps) → caps.l2 < length rows.l2 → over rows caps ≡ Some L2
-over-l2 rows caps full = rw (lt-ltb _ _ full) refl
-
-pub over-host : (rows : Rows) (caps : Caps) → length rows.l2 ≤ caps.l2 → caps.host < length rows.host → over rows caps ≡ Some Host
-over-host rows caps l2 full = rw (le-ltb _ _ l2) (rw (lt-ltb _ _ full) refl)
-
-pub over-group : (rows : Rows) (caps : Caps) → length rows.l2 ≤ caps.l2 → length rows.host ≤ caps.host → caps.group < length rows.group → over rows caps ≡ Some Group
-over-group rows caps l2 host full = rw (le-ltb _ _ l2) (rw (le-ltb _ _ host) (rw (lt-ltb _ _ full) refl))
-
-pub over-route : (rows : Rows) (caps : Caps) → length rows.l2 ≤ caps.l2 → length rows.host ≤ caps.host → length rows.group ≤ caps.group → caps.route < length rows.route → over rows caps ≡ Some Route
-over-route rows caps l2 host group full = rw (le-ltb _ _ l2) (rw (le-ltb _ _ host) (rw (le-ltb _ _ group) (rw (lt-ltb _ _ full) refl)))
-
-pub over-none : (rows : Rows) (caps : Caps) → length rows.l2 ≤ caps.l2 → length rows.host ≤ caps.host → length rows.group ≤ caps.group → length rows.route ≤ caps.route → over rows caps ≡ None
-over-none rows caps l2 host group route = rw (le-ltb _ _ l2) (rw (le-ltb _ _ host) (rw (le-ltb _ _ group) (rw (le-ltb _ _ route) refl)))
 
 -- what a chip holds fits it, under the capacities that it has kept
 pub record IsWithinView (caps : Caps) (rows : Rows) : Type 0 where

@@ -4,9 +4,19 @@ use Rattle.std.specs.declared.cmp.Ordering.{Ordering}
 use Rattle.keyed.specs.Keyed.{at, without}
 use Rattle.net_types.specs.KeyOrder.{l2_cmp, host_cmp, group_cmp, route_cmp}
 use Rattle.net_types.specs.Rows.{Rows}
+use Rattle.net_types.specs.declared.table.HopTarget.{HopTarget}
+use Rattle.net_types.specs.declared.table.RouteKey.{RouteKey}
 use Rattle.chip_core.specs.ChangeLists.{Change, IsAscending}
 use Rattle.chip_core.specs.Changes.{removes, adds}
 use Rattle.chip_core.specs.declared.changes.RowChanges.{RowChanges}
+
+-- the routes among the rows
+abbrev pub routes_of : Rows → List (RouteKey × HopTarget)
+routes_of rows = rows.route
+
+-- the rows with other routes
+abbrev pub with_routes : List (RouteKey × HopTarget) → Rows → Rows
+with_routes routes rows = record rows { route = routes }
 
 -- the rows without those of the listed keys
 abbrev pub cuts : {K V : Type 0} → (K → K → Ordering) → List (Change K V) → List (K × V) → List (K × V)

@@ -49,7 +49,7 @@ impl UndoLog {
 }
 
 /// Notes a write last, where the log has room.
-pub(crate) fn note(log: &mut Vec<Write>, write: Write)
+pub(crate) fn note<T: Drop>(log: &mut Vec<T>, write: T)
     requires { vec_len log.old < vec_capacity log.old }
     ensures items { log.new.items ≡ log.old.items ++ write ∷ [] }
     ensures len { vec_len log.new ≡ vec_len log.old + 1 }

@@ -1,10 +1,11 @@
 // A commit: all writes, or none.
 ghost use Rattle.std.specs.Prelude.{◌≡◌, ◌≤◌, ◌+◌, ◌*◌, OnErr, OnOk, vec_capacity, vec_len};
 ghost use Rattle.std.specs.Result.{result_err};
-ghost use Rattle.chip_core.specs.Changes.{AreOldRows, IsClosed, changed_rows, writes_of};
+ghost use Rattle.chip_core.specs.Changes.{AreOldRows, changed_rows, writes_of};
+ghost use Rattle.net_types.specs.Closed.{IsClosed};
 ghost use Rattle.chip_core.specs.Chip.{IsChip, view_of};
 ghost use Rattle.hw_undo.specs.Counts.{additions, deletions, differing, writes_made};
-ghost use Rattle.hw_undo.specs.Moments.{AreNoted, AreNotedUpTo, moment};
+ghost use Rattle.hw_undo.specs.Moments.{AreNotedUpToWhere, AreNotedWhere, moment};
 ghost use Rattle.net_types.specs.Capacity.{over};
 ghost use Rattle.hw_undo.specs.Phases.{AreReadyRows, with_new};
 
@@ -21,7 +22,7 @@ fn delete_rows<C: HwSwitch>(chip: &mut C, log: &mut Vec<Write>, changes: &RowCha
     requires room { vec_len log.old + deletions changes.now ≤ vec_capacity log.old }
     ensures ready { AreReadyRows changes.now (view_of (C.raw chip.new)) }
     ensures goal { with_new changes.now (view_of (C.raw chip.new)) ≡ changed_rows changes.now (view_of (C.raw chip.old)) }
-    ensures noted { AreNoted (deletions changes.now) (moment (C.raw chip.old) (C.caps chip.old) (C.writes chip.old) log.old) (moment (C.raw chip.new) (C.caps chip.new) (C.writes chip.new) log.new) }
+    ensures noted { AreNotedWhere (λ groups. groups ≡ changes.now.group) (deletions changes.now) (moment (C.raw chip.old) (C.caps chip.old) (C.writes chip.old) log.old) (moment (C.raw chip.new) (C.caps chip.new) (C.writes chip.new) log.new) }
 {
     let l2 = changes.l2.as_slice();
     let host = changes.host.as_slice();
@@ -45,8 +46,8 @@ fn write_rows<C: HwSwitch>(
     requires room { vec_len log.old + additions changes.now ≤ vec_capacity log.old }
     ensures view { OnOk result (view_of (C.raw chip.new) ≡ with_new changes.now (view_of (C.raw chip.old))) }
     ensures first { result_err result ≡ over (with_new changes.now (view_of (C.raw chip.old))) (C.caps chip.old) }
-    ensures noted { OnOk result (AreNoted (additions changes.now) (moment (C.raw chip.old) (C.caps chip.old) (C.writes chip.old) log.old) (moment (C.raw chip.new) (C.caps chip.new) (C.writes chip.new) log.new)) }
-    ensures some { OnErr result (AreNotedUpTo (additions changes.now) (moment (C.raw chip.old) (C.caps chip.old) (C.writes chip.old) log.old) (moment (C.raw chip.new) (C.caps chip.new) (C.writes chip.new) log.new)) }
+    ensures noted { OnOk result (AreNotedWhere (λ groups. groups ≡ changes.now.group) (additions changes.now) (moment (C.raw chip.old) (C.caps chip.old) (C.writes chip.old) log.old) (moment (C.raw chip.new) (C.caps chip.new) (C.writes chip.new) log.new)) }
+    ensures some { OnErr result (AreNotedUpToWhere (λ groups. groups ≡ changes.now.group) (additions changes.now) (moment (C.raw chip.old) (C.caps chip.old) (C.writes chip.old) log.old) (moment (C.raw chip.new) (C.caps chip.new) (C.writes chip.new) log.new)) }
 {
     let l2 = changes.l2.as_slice();
     let host = changes.host.as_slice();
@@ -109,7 +110,7 @@ pub fn commit<C: HwSwitch>(
             Ok(())
         }
         Err(table) => {
-            undo_writes(chip, &mut log.writes);
+            undo_writes(chip, &mut log.writes, changes.group.as_slice());
             Err(table)
         }
     }

@@ -8,7 +8,7 @@ use Rattle.net_types.specs.Rows.{Rows}
 use Rattle.net_types.specs.declared.table.HopTarget.{HopTarget}
 use Rattle.net_types.specs.declared.table.HopTarget.TheVariants.{Host, Group, ToCpu, Discard}
 use Rattle.net_types.specs.declared.table.HostKey.{HostKey}
-use Rattle.chip_core.specs.Changes.{IsClosed, IsTargetKnown}
+use Rattle.net_types.specs.Closed.{IsClosed, IsTargetKnown}
 
 abbrev every : {A : Type 0} → (A → Bool) → List A → Bool
 every test [] = true

@@ -9,7 +9,8 @@ use Rattle.net_types.specs.declared.table.L2Key.{L2Key}
 use Rattle.net_types.specs.declared.table.L2Row.{L2Row}
 use Rattle.net_types.specs.declared.table.RouteKey.{RouteKey}
 use Rattle.net_types.specs.declared.table.Tables.{Tables}
-use Rattle.chip_core.specs.Changes.{AreOldRows, IsClosed, changed_rows}
+use Rattle.chip_core.specs.Changes.{AreOldRows, changed_rows}
+use Rattle.net_types.specs.Closed.{IsClosed}
 use Rattle.chip_core.specs.Chip.{view_of}
 use Rattle.chip_core.specs.declared.changes.RowChanges.{RowChanges}
 

@@ -9,7 +9,7 @@ use chip_core::{
     GroupChangeList, HopTarget, HostChangeList, HostKey, HostKeyList, HostRow, L2ChangeList,
     MarkList, RouteChangeList, RouteKey, RouteRow, RowChanges, Tables,
 };
-use net_types::{ItemList, NoMemory};
+use net_types::{ItemList, NoMemory, Shared};
 use std::alloc::Global;
 
 /// Tables, and changes of their rows.
@@ -181,7 +181,9 @@ fn group_of(alloc: Global, first: u32, second: u32) -> Result<HostKeyList, NoMem
 {
     let first = host_of(first);
     let second = host_of(second);
-    Ok(ItemList::from_vec(vec![in alloc; first, second]?))
+    let hosts = ItemList::from_vec(vec![in alloc; first, second]?);
+    let shared = Shared::of(alloc, hosts)?;
+    Ok(shared)
 }
 
 /// The marks of two live hosts.

@@ -31,9 +31,5 @@ pub(crate) fn group_list_of(
     requires groups { AreGroupChanges changes.items }
     ensures { IfOk result (λ list. list ≡ changes.items) }
 {
-    let mut list = GroupChangeList::new(alloc);
-    for change in changes {
-        list.push(change)?;
-    }
-    Ok(list)
+    Ok(GroupChangeList::of(list_of(alloc, changes)?))
 }

@@ -187,3 +187,11 @@ fn hops(rt: HostRuntime) -> Result<(), Fail> {
     }
     Ok(())
 }
+
+#[test]
+fn a_fault_is_printed(rt: HostRuntime) -> Result<(), Fail> {
+    let fault = TextFault { at: 7 };
+    let printed = format!(in rt.alloc(); "{fault}")?;
+    assert!(rt; printed.as_str() == "no text of the form from byte 7 on");
+    Ok(())
+}

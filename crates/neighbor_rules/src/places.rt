@@ -1,15 +1,14 @@
 // Where neighbours and stations may stand.
-ghost use Rattle.std.specs.Prelude.{◌≡◌, is_some};
+ghost use Rattle.std.specs.Prelude.{◌≡◌};
 ghost use Rattle.switch_model.specs.Addresses.{is_on};
-ghost use Rattle.switch_model.specs.Facts.{addrs_at};
+ghost use Rattle.switch_model.specs.Facts.{addrs_at, has_intf, is_in_vlan, is_in_vlan_of};
 ghost use Rattle.switch_model.specs.PlainState.{intf_at, port_at};
-ghost use Rattle.switch_model.specs.Reason.{is_in_vlan, is_in_vlan_of};
 
 use net_types::{Intf, Ip, Port, Vlan};
 use switch_model::Lookup;
 
 pub(crate) fn has_intf<L: Lookup>(state: &L, intf: Intf) -> bool
-    ensures { result ≡ is_some (intf_at (L.plain state.now) intf) }
+    ensures { result ≡ has_intf (L.plain state.now) intf }
 {
     state.intf(intf).is_some()
 }

@@ -3,11 +3,13 @@ ghost use Rattle.std.specs.Prelude.{◌≡◌, IfOk, IfErr};
 ghost use Rattle.node_core.specs.Node.{made};
 
 use crate::node::Node;
-use std::alloc::{AllocFailed, Global};
+use crate::stamp::Stamp;
+use std::alloc::{AllocError as NoMemory, AllocFailed, Global};
 use std::marker::Model;
 use std::sync::Arc;
 
-/// Makes the nodes of one version, and takes the memory for them.
+/// Makes the nodes of one version and the links between them, and takes the memory for both. It has
+/// no `Clone` and hands no allocator out: whoever holds one makes things of its version alone.
 #[derive(Debug, Drop)]
 pub struct Forge {
     alloc: Global,
@@ -29,21 +31,34 @@ pub enum NodeFault<T> {
 }
 
 impl Forge {
+    /// A forge of the version.
     pub fn at(alloc: Global, version: u64) -> Forge
         ensures { result.version ≡ version }
     {
         Forge { alloc, version }
     }
 
+    /// The version of what it makes.
     pub fn version(&self) -> u64
         ensures { result ≡ self.now.version }
     {
         self.version
     }
 
-    /// The allocator that the nodes are made with, for what is built around them.
-    pub fn alloc(&self) -> Global {
-        self.alloc
+    /// The mark of what is made now: the forge's version.
+    pub fn stamp(&self) -> Stamp
+        ensures { result ≡ self.now.version }
+    {
+        Stamp::new(self.version)
+    }
+
+    /// A link to the value, which can be shared.
+    pub fn link<U>(&self, value: U) -> Result<Arc<U>, NoMemory>
+    where
+        U: Drop,
+        ensures { IfOk result (λ link. link.value ≡ value) }
+    {
+        Ok(Arc::new(self.alloc, value)?)
     }
 
     /// A node of the forge's version. Its birth is the given one, or else that version.

@@ -47,7 +47,7 @@ impl<T> Node<T> {
     }
 
     /// The version that made the node.
-    pub fn generation(&self) -> u64
+    pub fn gen_(&self) -> u64
         ensures { result ≡ self.now.generation }
     {
         self.generation

@@ -1,4 +1,4 @@
-// A node of each birth, and nodes in threads.
+// A node of each birth, stamps and links, and nodes in threads.
 use crate::{Forge, Node, NodeFault};
 use std::alloc::AllocError;
 use std::marker::{Send, Sync};
@@ -19,17 +19,14 @@ fn node(forge: &Forge, born: Option<u64>, value: u8) -> Result<Arc<Node<u8>>, Al
 fn births(rt: HostRuntime) -> Result<(), Fail> {
     let forge = Forge::at(rt.alloc(), 7);
     assert_eq!(rt; forge.version(), 7);
+    assert_eq!(rt; forge.stamp().version(), 7);
+    let link = forge.link(b'l')?;
+    assert_eq!(rt; *link, b'l');
     let fresh = node(&forge, None, b'a')?;
-    assert_eq!(rt;
-        (*fresh.value(), fresh.generation(), fresh.born()),
-        (b'a', 7, 7)
-    );
+    assert_eq!(rt; (*fresh.value(), fresh.gen_(), fresh.born()), (b'a', 7, 7));
     let later = node(&forge, Some(3), b'b')?;
-    assert_eq!(rt;
-        (*later.value(), later.generation(), later.born()),
-        (b'b', 7, 3)
-    );
-    let other = Forge::at(forge.alloc(), u64::MAX);
+    assert_eq!(rt; (*later.value(), later.gen_(), later.born()), (b'b', 7, 3));
+    let other = Forge::at(rt.alloc(), u64::MAX);
     let last = node(&other, None, b'c')?;
     assert_eq!(rt; last.born(), u64::MAX);
     Ok(())

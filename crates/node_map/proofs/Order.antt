@@ -1,15 +1,17 @@
 -- Entries that ascend by number, and the two halves of a tree.
-use Rattle.std.proofs.Common.{◌≡◌, ◌≢◌, ℕ, ◌<◌, ◌≤◌, Bool, true, false, cond, ltb, List, [], ◌∷◌, ◌++◌, None, Some, refl, sym, ap, arith}
+use Rattle.std.proofs.Common.{◌≡◌, ◌≢◌, ℕ, ◌<◌, ◌≤◌, Bool, true, false, cond, ltb, List, [], ◌∷◌, ◌++◌, None, Some, refl, sym, ap, ◌∙◌, append-nil, arith, inl, inr}
 use Rattle.std.specs.List.{All}
-use Rattle.std.specs.Ordering.{nat_cmp, match_ordering}
+use Rattle.std.specs.Ordering.{nat_cmp, match_ordering, is_le, is_ge, is_gt}
 use Rattle.std.specs.declared.cmp.Ordering.{Ordering}
 use Rattle.std.specs.declared.cmp.Ordering.TheVariants.{Less, Equal, Greater}
-use Rattle.std.proofs.lemmas.Bool.{lt-ltb, le-ltb, ne_eqb, eq-eqb}
+use Rattle.std.proofs.lemmas.Bool.{cases_lt, lt-ltb, le-ltb, ne_eqb, eq-eqb}
 use Rattle.std.proofs.lemmas.Cmp.{ranked}
-use Rattle.std.proofs.lemmas.List.Elements.{All-nil, All-cons, All-head, All-tail, All-weaker}
+use Rattle.std.proofs.lemmas.List.Elements.{All-nil, All-cons, All-head, All-tail, All-weaker, filter-append}
 use Rattle.std.proofs.lemmas.Option.{none-some}
 use Rattle.keyed.specs.Keyed.{at, put, without, IsBelow, Ascends}
-use Rattle.node_map.specs.Steps.{after, first_of}
+use Rattle.keyed.specs.Ranges.{head_of, last_of, up_to, onward, past}
+use Rattle.keyed.specs.RangeLaws.{filter_all, filter_none}
+use Rattle.node_map.specs.Steps.{after}
 
 -- what the order of numbers answers
 pub cmp-lt : (x y : ℕ) → x < y → nat_cmp x y ≡ Less
@@ -26,6 +28,34 @@ cmp-same x = let le : x ≤ x = omega arith in rw (le-ltb x x le, eq-eqb x x ref
 
 pub lt_from_cmp : (x y : ℕ) → nat_cmp x y ≡ Less → x < y
 lt_from_cmp x y less = rw less at (ranked x y (nat_cmp x y) refl)
+
+-- what the tests of a bound answer
+pub le_holds : (x y : ℕ) → x ≤ y → is_le (nat_cmp x y) ≡ true
+le_holds x y le = elim (cases_lt x y) [
+  | inl lt ↦ rw (cmp-lt x y lt) refl
+  | inr ge ↦ let same : x ≡ y = omega arith in rw (same, cmp-same y) refl
+]
+
+pub le_fails : (x y : ℕ) → y < x → is_le (nat_cmp x y) ≡ false
+le_fails x y gt = rw (cmp-gt x y gt) refl
+
+pub ge_holds : (x y : ℕ) → y ≤ x → is_ge (nat_cmp x y) ≡ true
+ge_holds x y ge = elim (cases_lt y x) [
+  | inl gt ↦ rw (cmp-gt x y gt) refl
+  | inr le ↦ let same : x ≡ y = omega arith in rw (same, cmp-same y) refl
+]
+
+pub ge_fails : (x y : ℕ) → x < y → is_ge (nat_cmp x y) ≡ false
+ge_fails x y lt = rw (cmp-lt x y lt) refl
+
+pub gt_holds : (x y : ℕ) → y < x → is_gt (nat_cmp x y) ≡ true
+gt_holds x y gt = rw (cmp-gt x y gt) refl
+
+pub gt_fails : (x y : ℕ) → x ≤ y → is_gt (nat_cmp x y) ≡ false
+gt_fails x y le = elim (cases_lt x y) [
+  | inl lt ↦ rw (cmp-lt x y lt) refl
+  | inr ge ↦ let same : x ≡ y = omega arith in rw (same, cmp-same y) refl
+]
 
 module _ {V : Type 0} where
   -- the keys of a list are above, or below, a number
@@ -112,15 +142,15 @@ module _ {V : Type 0} where
   without_back k (e ∷ l) r b = rw (cmp-gt k e.0 (All-head (λ x. x.0 < k) e l b)) (ap (λ z. e ∷ z) (without_back k l r (All-tail (λ x. x.0 < k) e l b)))
 
   -- the first entry past a key
-  first_after : (k : ℕ) (r : List (ℕ × V)) → Above k r → after k r ≡ first_of r
+  first_after : (k : ℕ) (r : List (ℕ × V)) → Above k r → after k r ≡ head_of r
   first_after k [] a = refl
   first_after k (e ∷ r) a = rw (lt-ltb k e.0 (All-head (λ x. k < x.0) e r a)) refl
 
-  after_none_cases : (k : ℕ) (e : ℕ × V) (l r : List (ℕ × V)) (b : Bool) → (after k l ≡ None → after k (l ++ r) ≡ first_of r) → cond b (Some e) (after k l) ≡ None → cond b (Some e) (after k (l ++ r)) ≡ first_of r
+  after_none_cases : (k : ℕ) (e : ℕ × V) (l r : List (ℕ × V)) (b : Bool) → (after k l ≡ None → after k (l ++ r) ≡ head_of r) → cond b (Some e) (after k l) ≡ None → cond b (Some e) (after k (l ++ r)) ≡ head_of r
   after_none_cases k e l r true further none = absurd (none-some e (sym none))
   after_none_cases k e l r false further none = further none
 
-  pub after_none : (k : ℕ) (l r : List (ℕ × V)) → Above k r → after k l ≡ None → after k (l ++ r) ≡ first_of r
+  pub after_none : (k : ℕ) (l r : List (ℕ × V)) → Above k r → after k l ≡ None → after k (l ++ r) ≡ head_of r
   after_none k [] r a none = first_after k r a
   after_none k (e ∷ l) r a none = after_none_cases k e l r (ltb k e.0) (after_none k l r a) none
 
@@ -137,6 +167,48 @@ module _ {V : Type 0} where
   after_back k (e ∷ l) r a = rw (le-ltb k e.0 (All-head (λ x. x.0 ≤ k) e l a)) (after_back k l r (All-tail (λ x. x.0 ≤ k) e l a))
 
   -- the first of two lists has the first entry
-  pub first_append : {x : ℕ × V} (l r : List (ℕ × V)) → Some x ≡ first_of l → Some x ≡ first_of (l ++ r)
+  pub first_append : {x : ℕ × V} (l r : List (ℕ × V)) → Some x ≡ head_of l → Some x ≡ head_of (l ++ r)
   first_append {x} [] r some = absurd (none-some x (sym some))
   first_append {x} (e ∷ l) r some = some
+
+  pub after_past : (k : ℕ) (l : List (ℕ × V)) → after k l ≡ head_of (past nat_cmp k l)
+  after_past k [] = refl
+  after_past k (e ∷ l) = elim (cases_lt k e.0) [
+    | inl lt ↦ rw (lt-ltb k e.0 lt, cmp-gt e.0 k lt) refl
+    | inr le ↦ rw (le-ltb k e.0 le, gt_fails e.0 k le) (after_past k l)
+  ]
+
+  -- the entries up to a key
+  pub up_to_front : (k : ℕ) (l r : List (ℕ × V)) → Above k r → up_to nat_cmp k (l ++ r) ≡ up_to nat_cmp k l
+  up_to_front k l r a =
+      filter-append (λ e. is_le (nat_cmp e.0 k)) l r
+      ∙ ap (λ z. up_to nat_cmp k l ++ z) (filter_none (λ e. is_le (nat_cmp e.0 k)) r (All-weaker (λ x. k < x.0) (λ x. is_le (nat_cmp x.0 k) ≡ false) (λ x h. le_fails x.0 k h) r a))
+      ∙ append-nil (up_to nat_cmp k l)
+
+  pub up_to_back : (k : ℕ) (l r : List (ℕ × V)) → All (λ e. e.0 ≤ k) l → up_to nat_cmp k (l ++ r) ≡ l ++ up_to nat_cmp k r
+  up_to_back k l r a =
+      filter-append (λ e. is_le (nat_cmp e.0 k)) l r
+      ∙ ap (λ z. z ++ up_to nat_cmp k r) (filter_all (λ e. is_le (nat_cmp e.0 k)) l (All-weaker (λ x. x.0 ≤ k) (λ x. is_le (nat_cmp x.0 k) ≡ true) (λ x h. le_holds x.0 k h) l a))
+
+  pub last_one : (k : ℕ) (e : ℕ × V) → e.0 ≤ k → last_of (up_to nat_cmp k (e ∷ [])) ≡ Some e
+  last_one k e le = rw (le_holds e.0 k le) refl
+
+  pub last_no_one : (k : ℕ) (e : ℕ × V) → k < e.0 → last_of (up_to nat_cmp k (e ∷ [])) ≡ None
+  last_no_one k e lt = rw (le_fails e.0 k lt) refl
+
+  -- the entries from a key on
+  pub onward_front : (k : ℕ) (l r : List (ℕ × V)) → All (λ e. k ≤ e.0) r → onward nat_cmp k (l ++ r) ≡ onward nat_cmp k l ++ r
+  onward_front k l r a =
+      filter-append (λ e. is_ge (nat_cmp e.0 k)) l r
+      ∙ ap (λ z. onward nat_cmp k l ++ z) (filter_all (λ e. is_ge (nat_cmp e.0 k)) r (All-weaker (λ x. k ≤ x.0) (λ x. is_ge (nat_cmp x.0 k) ≡ true) (λ x h. ge_holds x.0 k h) r a))
+
+  pub onward_back : (k : ℕ) (l r : List (ℕ × V)) → Below k l → onward nat_cmp k (l ++ r) ≡ onward nat_cmp k r
+  onward_back k l r a =
+      filter-append (λ e. is_ge (nat_cmp e.0 k)) l r
+      ∙ ap (λ z. z ++ onward nat_cmp k r) (filter_none (λ e. is_ge (nat_cmp e.0 k)) l (All-weaker (λ x. x.0 < k) (λ x. is_ge (nat_cmp x.0 k) ≡ false) (λ x h. ge_fails x.0 k h) l a))
+
+  pub onward_one : (k : ℕ) (e : ℕ × V) → k ≤ e.0 → onward nat_cmp k (e ∷ []) ≡ e ∷ []
+  onward_one k e le = rw (ge_holds e.0 k le) refl
+
+  pub onward_no_one : (k : ℕ) (e : ℕ × V) → e.0 < k → onward nat_cmp k (e ∷ []) ≡ []
+  onward_no_one k e lt = rw (ge_fails e.0 k lt) refl

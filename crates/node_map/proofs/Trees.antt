@@ -10,10 +10,11 @@ use Rattle.keyed.specs.Keyed.{at}
 use Rattle.node_core.specs.Node.{NodeView}
 use Rattle.node_key.specs.Place.{floor, Covers, Encloses}
 use Rattle.node_key.proofs.Floor.{covered, floor_of, aligned_below}
-use Rattle.node_map.specs.Steps.{after, first_of}
+use Rattle.keyed.specs.Ranges.{head_of, onward, up_to}
+use Rattle.node_map.specs.Steps.{after}
 use Rattle.node_map.specs.TreeNode.{TreeNode, TreeView, is_on_path, leaf_view, branch_view}
 use Rattle.node_map.specs.Sound.{AreSingle, HasLeaf, IsPlace, IsSound, IsBranch}
-use Rattle.node_map.proofs.Order.{Above, Below, ascends_append, at_front, at_back, after_none, after_back}
+use Rattle.node_map.proofs.Order.{Above, Below, ascends_append, at_front, at_back, after_none, after_back, onward_front, onward_back, up_to_front, up_to_back}
 
 -- one more at the front
 pub contains_here : {X : Type 0} (x : X) (xs : List X) → Contains (x ∷ xs) x
@@ -313,8 +314,20 @@ module _ {T : Type 0} where
     pub at_right : (key : ℕ) → split ≤ key → at nat_cmp key (l.entries ++ r.entries) ≡ at nat_cmp key r.entries
     at_right key ge = at_back key l.entries r.entries (left_before key ge)
 
-    pub after_left_none : (key : ℕ) → key < split → after key l.entries ≡ None → after key (l.entries ++ r.entries) ≡ first_of r.entries
+    pub after_left_none : (key : ℕ) → key < split → after key l.entries ≡ None → after key (l.entries ++ r.entries) ≡ head_of r.entries
     after_left_none key lt none = after_none key l.entries r.entries (right_above key lt) none
 
     pub after_right : (key : ℕ) → split ≤ key → after key (l.entries ++ r.entries) ≡ after key r.entries
     after_right key ge = after_back key l.entries r.entries (All-weaker (λ (e : ℕ × NodeView T). e.0 < split) (λ (e : ℕ × NodeView T). e.0 ≤ key) (λ e below. omega arith) l.entries left_below)
+
+    pub up_to_left : (key : ℕ) → key < split → up_to nat_cmp key (l.entries ++ r.entries) ≡ up_to nat_cmp key l.entries
+    up_to_left key lt = up_to_front key l.entries r.entries (right_above key lt)
+
+    pub up_to_right : (key : ℕ) → split ≤ key → up_to nat_cmp key (l.entries ++ r.entries) ≡ l.entries ++ up_to nat_cmp key r.entries
+    up_to_right key ge = up_to_back key l.entries r.entries (All-weaker (λ (e : ℕ × NodeView T). e.0 < split) (λ (e : ℕ × NodeView T). e.0 ≤ key) (λ e below. omega arith) l.entries left_below)
+
+    pub onward_left : (key : ℕ) → key < split → onward nat_cmp key (l.entries ++ r.entries) ≡ onward nat_cmp key l.entries ++ r.entries
+    onward_left key lt = onward_front key l.entries r.entries (All-weaker (λ (e : ℕ × NodeView T). split ≤ e.0) (λ (e : ℕ × NodeView T). key ≤ e.0) (λ e above. omega arith) r.entries right_from)
+
+    pub onward_right : (key : ℕ) → split ≤ key → onward nat_cmp key (l.entries ++ r.entries) ≡ onward nat_cmp key r.entries
+    onward_right key ge = onward_back key l.entries r.entries (left_before key ge)

@@ -1,11 +1,15 @@
 -- The trees that a walk has still to meet.
 use Rattle.std.proofs.Common.{◌≡◌, ℕ, zero, suc, ◌+◌, ◌<◌, ◌≤◌, List, [], ◌∷◌, ◌++◌, length, get_or, replicate, Option, None, Some, refl, sym, ap, ◌∙◌, subst, append_assoc, append-nil, get_or-set_same, get_or-set_other, arith, inl, inr}
 use Rattle.std.specs.Borrow.{Bor}
+use Rattle.std.specs.Ordering.{nat_cmp}
 use Rattle.std.proofs.Math.ListN.{set, length-set}
 use Rattle.std.proofs.lemmas.Bool.{cases_eq}
 use Rattle.std.proofs.lemmas.List.{get_or_default}
+use Rattle.keyed.specs.Ranges.{onward}
 use Rattle.node_map.specs.Pending.{AreSlots, IsNarrow, IsTaken, slot_entries, pending_entries}
+use Rattle.node_map.specs.Sound.{IsBranch}
 use Rattle.node_map.specs.TreeNode.{Entries, TreeView, branch_view}
+use Rattle.node_map.proofs.Trees.{onward_left, onward_right}
 
 abbrev Slots : Type 0 → Type 0
 Slots T = List (Option (Bor (TreeView T)))
@@ -97,3 +101,12 @@ module _ {T : Type 0} where
   halves_pending {from} {at} {low} {width} {generation} {t} slots after left right first are view under fits is =
       let count : length slots ≡ 193 = are.count in
       is ∙ ap (λ z. left.now.entries ++ z) (pending_put slots at (Some right) (omega arith) (λ k lt. are.none_before k (omega arith))) ∙ sym (append_assoc left.now.entries right.now.entries (pending_entries slots)) ∙ ap (λ v. v.entries ++ pending_entries slots) view
+
+  -- the same on the way down to a key in the left half
+  pub onward_pending : {from at : ℕ} {low split width generation : ℕ} {t : TreeView T} (slots after : Slots T) (left right : Bor (TreeView T)) (first : Entries T) (key : ℕ) → AreSlots from slots → IsBranch low split width left.now right.now → branch_view low width generation left.now right.now ≡ t → key < split → at < from → at < 193 → first ++ pending_entries after ≡ onward nat_cmp key left.now.entries ++ pending_entries (set slots at (Some right)) → first ++ pending_entries after ≡ onward nat_cmp key t.entries ++ pending_entries slots
+  onward_pending {from} {at} {low} {split} {width} {generation} {t} slots after left right first key are is_branch view lt under fits is =
+      let count : length slots ≡ 193 = are.count in
+      is ∙ ap (λ z. onward nat_cmp key left.now.entries ++ z) (pending_put slots at (Some right) (omega arith) (λ k lt. are.none_before k (omega arith))) ∙ sym (append_assoc (onward nat_cmp key left.now.entries) right.now.entries (pending_entries slots)) ∙ ap (λ z. z ++ pending_entries slots) (sym (onward_left is_branch key lt)) ∙ ap (λ v. onward nat_cmp key v.entries ++ pending_entries slots) view
+
+  pub onward_right_half : {low split width generation : ℕ} {t : TreeView T} (left right : TreeView T) (key : ℕ) → IsBranch low split width left right → branch_view low width generation left right ≡ t → split ≤ key → onward nat_cmp key right.entries ≡ onward nat_cmp key t.entries
+  onward_right_half {t = t} left right key is_branch view ge = sym (onward_right is_branch key ge) ∙ ap (λ v. onward nat_cmp key v.entries) view

@@ -9,6 +9,11 @@ abbrev pub stored : {T : Type 0} → (T → T → Bool) → ℕ → T → Option
 stored eq version value None = record { value = value; generation = version; born = version }
 stored eq version value (Some node) = if eq node.value value then node else record { value = value; generation = version; born = node.born }
 
+-- the node under a key after a value was set there at the version, given the node before: it keeps the birth, and a new key is born
+abbrev pub renewed : {T : Type 0} → ℕ → T → Option (NodeView T) → NodeView T
+renewed version value None = record { value = value; generation = version; born = version }
+renewed version value (Some node) = record { value = value; generation = version; born = node.born }
+
 -- made at the version, on the key's path
 pub record IsMadeFor {T : Type 0} (version key : ℕ) (n : TreeNode T) : Type 0 where
   pub at : n.generation ≡ version

@@ -1,9 +1,5 @@
--- The steps of a walk: the first entry, and the first one past a key.
+-- The steps of a walk: the first entry past a key, and what is left after it.
 use Rattle.std.specs.Prelude.{ℕ, List, [], ◌∷◌, Option, None, Some, if◌then◌else◌, nat_lt}
-
-abbrev pub first_of : {V : Type 0} → List (ℕ × V) → Option (ℕ × V)
-first_of [] = None
-first_of (e ∷ es) = Some e
 
 -- the first entry whose key is above the key
 abbrev pub after : {V : Type 0} → ℕ → List (ℕ × V) → Option (ℕ × V)

@@ -1,10 +1,11 @@
 // A persistent map of nodes, seen as its entries by ascending key and as the nodes of its tree.
 ghost use Rattle.std.specs.Prelude.{◌≡◌, [], None, IfOk, IfSome, IsNone, IsTrue, All, MatchOption};
-ghost use Rattle.std.specs.Option.{option_copied};
+ghost use Rattle.std.specs.Option.{option_copied, option_map};
 ghost use Rattle.std.specs.Ordering.{nat_cmp};
 ghost use Rattle.keyed.specs.Keyed.{at, put, without, Ascends};
+ghost use Rattle.keyed.specs.Ranges.{head_of, last_of, up_to, onward, past};
 ghost use Rattle.node_core.specs.Node.{made};
-ghost use Rattle.node_map.specs.Change.{IsPathMade, stored};
+ghost use Rattle.node_map.specs.Change.{IsPathMade, renewed, stored};
 ghost use Rattle.node_map.specs.Map.{IsRootOf};
 ghost use Rattle.node_map.specs.Sound.{AreSingle, HasLeaf, IsPlace};
 ghost use Rattle.node_map.specs.TreeNode.{PathsFit};
@@ -58,6 +59,33 @@ impl<T> NodeMap<T> {
         ensures { result ≡ self.now.entries }
     {
         Walk::new(self.root())
+    }
+
+    /// The keys with their nodes from the key on, in order. It copies nothing and takes no memory.
+    pub fn walk_from(&self, key: &NodeKey) -> Walk<'_, T>
+        ensures { result ≡ onward nat_cmp key.now self.now.entries }
+    {
+        Walk::seek(self.root(), key)
+    }
+
+    /// The first entry whose key is above the key.
+    pub fn after(&self, key: &NodeKey) -> Option<(&NodeKey, &Node<T>)>
+        ensures { option_map (λ e. (e.0.now, e.1.now)) result ≡ head_of (past nat_cmp key.now self.now.entries) }
+    {
+        match &self.root {
+            None => None,
+            Some(tree) => tree.after(key),
+        }
+    }
+
+    /// The last entry whose key isn't above the key.
+    pub fn last_to(&self, key: &NodeKey) -> Option<(&NodeKey, &Node<T>)>
+        ensures { option_map (λ e. (e.0.now, e.1.now)) result ≡ last_of (up_to nat_cmp key.now self.now.entries) }
+    {
+        match &self.root {
+            None => None,
+            Some(tree) => tree.last_to(key),
+        }
     }
 
     /// The root of the tree, for walks that pass over what two maps share.
@@ -147,6 +175,18 @@ impl<T: Drop> NodeMap<T> {
         match forge.make(born, value) {
             Err(NodeFault::NoMemory(_)) => Err(NoMemory),
             Ok(node) => self.place(forge, key, node),
+        }
+    }
+
+    /// The map with the value under the key, always in a new node: for values that have no equality.
+    /// A key that is there keeps its birth; a new key is born at the forge's version.
+    pub fn set(&self, forge: &Forge, key: NodeKey, value: T) -> Result<NodeMap<T>, NoMemory>
+        ensures entries { IfOk result (λ m. m.entries ≡ put nat_cmp key (renewed forge.now.version value (at nat_cmp key self.now.entries)) self.now.entries) }
+        ensures nodes { IfOk result (λ m. IsPathMade forge.now.version key self.now.nodes m.nodes) }
+    {
+        match self.get(&key) {
+            None => self.with_value(forge, key, None, value),
+            Some(node) => self.with_value(forge, key, Some(node.born()), value),
         }
     }
 }

@@ -3,32 +3,35 @@ ghost use Rattle.std.specs.Prelude.{◌≡◌, ◌≢◌, ◌==◌, ◌+◌, ◌
 ghost use Rattle.std.specs.Option.{option_copied, option_map};
 ghost use Rattle.std.specs.Ordering.{nat_cmp};
 ghost use Rattle.keyed.specs.Keyed.{at};
+ghost use Rattle.keyed.specs.Ranges.{head_of, last_of, up_to};
 ghost use Rattle.node_key.specs.Place.{floor, Encloses};
 ghost use Rattle.node_map.specs.Sound.{IsBranch, IsSound, IsPlaced, IsLeft};
-ghost use Rattle.node_map.specs.Steps.{after, first_of, later};
+ghost use Rattle.node_map.specs.Steps.{after, later};
 ghost use Rattle.node_map.specs.TreeNode.{leaf_view, branch_view};
 
-use node_core::{Forge, Node};
+use node_core::{Forge, Node, Stamp};
 use node_key::{Fork, NodeKey};
 use std::alloc::AllocError;
 use std::marker::Model;
 use std::sync::Arc;
 
-// One entry, or two halves with the generation that made the branch.
+// One entry, or two halves.
 #[cycle(tree)]
 #[derive(Drop)]
 pub(crate) enum Shape<T> {
     Leaf(Arc<Node<T>>),
-    Branch(u64, Arc<Tree<T>>, Arc<Tree<T>>),
+    Branch(Arc<Tree<T>>, Arc<Tree<T>>),
 }
 
 /// A node of a map's tree, with all that stands below it. Its place is the keys that differ from its
 /// mark in their lowest `width` bits alone: a leaf's mark is its key, and a branch's is its split,
-/// the first key of its right half.
+/// the first key of its right half. Its stamp is the mark of the forge that made it: a tree can't be
+/// made once more with the generation that it has.
 #[cycle(tree)]
 #[derive(Drop)]
 pub struct Tree<T> {
     mark: NodeKey,
+    stamp: Stamp,
     shape: Shape<T>,
     width: u8,
 }
@@ -42,9 +45,9 @@ impl<T> Model for Tree<T> {
     ghost use Rattle.std.proofs.Common.{arith, length-append};
     ghost use Rattle.node_map.specs.Shapes.{shaped, IsShaped};
 
-    ghost view = { λ t. shaped t.mark t.width t.shape };
+    ghost view = { λ t. shaped t.mark t.width t.stamp t.shape };
 
-    ghost invariant = { λ t. IsShaped t.mark t.width t.shape };
+    ghost invariant = { λ t. IsShaped t.mark t.width t.stamp t.shape };
 
     ghost size = { λ v. length v.nodes };
 
@@ -94,13 +97,10 @@ impl<T> Tree<T> {
     }
 
     /// The version that made the tree's own node.
-    pub fn generation(&self) -> u64
+    pub fn gen_(&self) -> u64
         ensures { result ≡ self.now.generation }
     {
-        match &self.shape {
-            Shape::Leaf(node) => node.generation(),
-            Shape::Branch(generation, _, _) => *generation,
-        }
+        self.stamp.version()
     }
 
     /// The entry of a leaf, or the halves of a branch.
@@ -109,7 +109,7 @@ impl<T> Tree<T> {
     {
         match &self.shape {
             Shape::Leaf(node) => Arms::Leaf(&self.mark, node),
-            Shape::Branch(_, left, right) => Arms::Branch(&self.mark, left, right),
+            Shape::Branch(left, right) => Arms::Branch(&self.mark, left, right),
         }
     }
 
@@ -124,7 +124,7 @@ impl<T> Tree<T> {
                     None
                 }
             }
-            Shape::Branch(_, left, right) => {
+            Shape::Branch(left, right) => {
                 if key.is_before(&self.mark) {
                     left.get(key)
                 } else {
@@ -136,7 +136,7 @@ impl<T> Tree<T> {
 
     /// The first entry past the last key that was seen, or the first one where none was.
     pub fn entry_past<'a>(&'a self, last: &Option<NodeKey>) -> Option<(&'a NodeKey, &'a Node<T>)>
-        ensures { option_map (λ e. (e.0.now, e.1.now)) result ≡ first_of (later last.now self.now.entries) }
+        ensures { option_map (λ e. (e.0.now, e.1.now)) result ≡ head_of (later last.now self.now.entries) }
     {
         match last {
             None => Some(self.first()),
@@ -163,11 +163,46 @@ impl<T> Tree<T> {
 
     /// The first entry.
     pub fn first(&self) -> (&NodeKey, &Node<T>)
-        ensures { Some (result.0.now, result.1.now) ≡ first_of self.now.entries }
+        ensures { Some (result.0.now, result.1.now) ≡ head_of self.now.entries }
     {
         match &self.shape {
             Shape::Leaf(node) => (&self.mark, node),
-            Shape::Branch(_, left, _) => left.first(),
+            Shape::Branch(left, _) => left.first(),
+        }
+    }
+
+    /// The last entry.
+    pub fn last(&self) -> (&NodeKey, &Node<T>)
+        ensures { Some (result.0.now, result.1.now) ≡ last_of self.now.entries }
+    {
+        match &self.shape {
+            Shape::Leaf(node) => (&self.mark, node),
+            Shape::Branch(_, right) => right.last(),
+        }
+    }
+
+    /// The last entry whose key isn't above the key.
+    pub fn last_to<'a>(&'a self, key: &NodeKey) -> Option<(&'a NodeKey, &'a Node<T>)>
+        ensures { option_map (λ e. (e.0.now, e.1.now)) result ≡ last_of (up_to nat_cmp key.now self.now.entries) }
+    {
+        match &self.shape {
+            Shape::Leaf(node) => {
+                if key.is_before(&self.mark) {
+                    None
+                } else {
+                    Some((&self.mark, node))
+                }
+            }
+            Shape::Branch(left, right) => {
+                if key.is_before(&self.mark) {
+                    left.last_to(key)
+                } else {
+                    match right.last_to(key) {
+                        None => Some(left.last()),
+                        Some(entry) => Some(entry),
+                    }
+                }
+            }
         }
     }
 
@@ -183,7 +218,7 @@ impl<T> Tree<T> {
                     None
                 }
             }
-            Shape::Branch(_, left, right) => {
+            Shape::Branch(left, right) => {
                 if key.is_before(&self.mark) {
                     match left.after(key) {
                         None => Some(right.first()),
@@ -203,14 +238,16 @@ pub(crate) fn leaf<T: Drop>(
     key: NodeKey,
     node: Arc<Node<T>>,
 ) -> Result<Arc<Tree<T>>, AllocError>
+    requires { node.value.generation ≡ forge.now.version }
     ensures { IfOk result (λ t. t.value ≡ leaf_view key node.value) }
 {
     let tree = Tree {
         mark: key,
+        stamp: forge.stamp(),
         shape: Shape::Leaf(node),
         width: 0,
     };
-    Ok(Arc::new(forge.alloc(), tree)?)
+    forge.link(tree)
 }
 
 // A tree of two halves.
@@ -225,10 +262,11 @@ fn branch<T: Drop>(
 {
     let tree = Tree {
         mark: fork.split,
-        shape: Shape::Branch(forge.version(), left, right),
+        stamp: forge.stamp(),
+        shape: Shape::Branch(left, right),
         width: fork.width,
     };
-    Ok(Arc::new(forge.alloc(), tree)?)
+    forge.link(tree)
 }
 
 // A branch of a new left half and the old right one, which is shared.
@@ -310,7 +348,7 @@ pub(crate) fn place_in<T: Drop>(
             let tree = leaf(forge, key, node)?;
             Ok(tree)
         }
-        Shape::Branch(_, left, right) => {
+        Shape::Branch(left, right) => {
             let fork = Fork {
                 split: tree.mark,
                 width: tree.width,
@@ -340,7 +378,7 @@ pub(crate) fn without_in<T: Drop>(
     let tree: &Tree<T> = link;
     match &tree.shape {
         Shape::Leaf(_) => Ok(None),
-        Shape::Branch(_, left, right) => {
+        Shape::Branch(left, right) => {
             let fork = Fork {
                 split: tree.mark,
                 width: tree.width,

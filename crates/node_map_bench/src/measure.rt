@@ -52,6 +52,29 @@ fn measured_map<R: CpuClock + Print + AllocGlobal>(
     println!(rt; "       as counted: {is_right}")
 }
 
+// Times of the questions beside a key.
+fn measured_neighbours<R: CpuClock + Print + AllocGlobal>(
+    rt: &R,
+    shape: Shape,
+    count: u64,
+) -> io::Result<()> {
+    let map = work::filled(rt.alloc(), shape, count)?;
+    let sum = work::found(&map, shape, count);
+    let start = rt.thread_cpu_time()?;
+    let last_sum = work::last_to(&map, shape, count);
+    let last = each(since(rt, start)?, count);
+    let start = rt.thread_cpu_time()?;
+    let begun_sum = work::begun(&map, shape, count);
+    let begun = each(since(rt, start)?, count);
+    let start = rt.thread_cpu_time()?;
+    let followed = work::followed(&map, shape, count);
+    let after = each(since(rt, start)?, count);
+    let is_right = last_sum == sum && begun_sum == sum && followed == count.saturating_sub(1);
+    println!(rt;
+        "       last_to {last} ns, after {after} ns, walk_from and a step {begun} ns, as counted: {is_right}"
+    )
+}
+
 // Times of std's ordered map.
 fn measured_table<R: CpuClock + Print + AllocGlobal>(
     rt: &R,
@@ -83,6 +106,7 @@ pub fn measured<R: CpuClock + Print + AllocGlobal>(
     count: u64,
 ) -> io::Result<()> {
     measured_map(rt, shape, count)?;
+    measured_neighbours(rt, shape, count)?;
     measured_table(rt, shape, count)
 }
 
@@ -96,7 +120,11 @@ pub fn counted<R: Print + AllocGlobal>(rt: &R, shape: Shape, count: u64) -> io::
     let (left, _) = work::walked(&none);
     let differing = work::differing(&map, &changed);
     let found = work::found(&map, shape, count);
+    let last = work::last_to(&map, shape, count);
+    let begun = work::begun(&map, shape, count);
+    let followed = work::followed(&map, shape, count);
     println!(rt;
         "{shape:?}: {entries} entries of sum {sum}, found {found}, {differing} differ, {left} left"
-    )
+    )?;
+    println!(rt; "{shape:?}: last {last}, begun {begun}, {followed} followed")
 }

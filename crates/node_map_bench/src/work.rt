@@ -88,6 +88,39 @@ pub fn found(map: &NodeMap<u64>, shape: Shape, count: u64) -> u64 {
     sum
 }
 
+/// The sum of the values of the last entries up to the keys, which are the keys' own.
+pub fn last_to(map: &NodeMap<u64>, shape: Shape, count: u64) -> u64 {
+    let mut sum = 0u64;
+    for step in 0..count {
+        if let Some((_, node)) = map.last_to(&shape.key(shape.number(step, count))) {
+            sum = sum.wrapping_add(*node.value());
+        }
+    }
+    sum
+}
+
+/// The sum of the values with which walks from the keys begin, which are the keys' own.
+pub fn begun(map: &NodeMap<u64>, shape: Shape, count: u64) -> u64 {
+    let mut sum = 0u64;
+    for step in 0..count {
+        let mut walk = map.walk_from(&shape.key(shape.number(step, count)));
+        if let Some((_, node)) = walk.next() {
+            sum = sum.wrapping_add(*node.value());
+        }
+    }
+    sum
+}
+
+/// How many of the keys have another one after them: all but one.
+pub fn followed(map: &NodeMap<u64>, shape: Shape, count: u64) -> u64 {
+    let mut followed = 0u64;
+    for step in 0..count {
+        let next = map.after(&shape.key(shape.number(step, count)));
+        followed = followed.wrapping_add(u64::from(next.is_some()));
+    }
+    followed
+}
+
 /// How many entries a walk meets, and the sum of their values.
 pub fn walked(map: &NodeMap<u64>) -> (u64, u64) {
     let mut count = 0u64;

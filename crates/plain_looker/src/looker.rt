@@ -1,13 +1,14 @@
 // A plain state as a value.
-ghost use Rattle.std.specs.Prelude.{◌≡◌, ◌==◌, ◌&&◌, if◌then◌else◌, OnErr, OnOk, option_copied, option_map};
+ghost use Rattle.std.specs.Prelude.{◌≡◌, ◌==◌, ◌&&◌, if◌then◌else◌, filter, OnErr, OnOk, option_copied, option_map};
 ghost use Rattle.std.specs.List.{list_any, reduce};
 ghost use Rattle.std.specs.Ordering.{nat_cmp};
 ghost use Rattle.keyed.specs.Keyed.{put, without};
 ghost use Rattle.keyed.specs.Sets.{delete};
 ghost use Rattle.net_types.specs.KeyOrder.{l2_cmp};
-ghost use Rattle.switch_model.specs.Addresses.{addr_cmp, is_on, same_addr};
+ghost use Rattle.net_types.specs.Prefix.{overlaps};
+ghost use Rattle.switch_model.specs.Addresses.{addr_cmp, is_on, same_addr, subnets};
 ghost use Rattle.switch_model.specs.BestRoute.{connected_to, nearer, routes_to};
-ghost use Rattle.switch_model.specs.Facts.{addrs_of, is_behind, overlaps_as};
+ghost use Rattle.switch_model.specs.Facts.{addrs_of, is_behind, is_other};
 ghost use Rattle.switch_model.specs.Looking.{best_route};
 ghost use Rattle.switch_model.specs.LongestMatch.{with_best};
 ghost use Rattle.switch_model.specs.PlainState.{empty, rib, route_at};
@@ -320,9 +321,12 @@ fn is_behind(port: Port, rec: &NeighborRec) -> bool
 
 /// Whether the prefix overlaps a subnet of another one of the interfaces, in that VRF.
 fn overlaps_in(intfs: &[(Intf, IntfRec)], intf: Intf, vrf: Vrf, prefix: &Prefix) -> bool
-    ensures { result ≡ list_any (overlaps_as intf vrf prefix.now) intfs.now }
+    ensures { result ≡ list_any (λ e. list_any (overlaps prefix.now) (subnets e.1.addrs)) (filter (is_other intf vrf) intfs.now) }
 {
-    intfs.iter().any(|e| e.0 != intf && e.1.vrf == vrf && e.1.addrs.overlaps(prefix))
+    intfs
+        .iter()
+        .filter(|e| e.0 != intf && e.1.vrf == vrf)
+        .any(|e| e.1.addrs.overlaps(prefix))
 }
 
 /// Whether the ip is on the interface without that address. One that isn't there has none.

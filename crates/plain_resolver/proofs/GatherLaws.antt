@@ -19,7 +19,7 @@ use Rattle.switch_model.specs.Addresses.{same_addr}
 use Rattle.switch_model.specs.Ends.{AreEnds}
 use Rattle.plain_resolver.specs.Gathered.{Holds, Grows}
 use Rattle.switch_model.specs.PlainState.{Rib}
-use Rattle.switch_model.specs.Reach.{Met, direct, onward, to_cpu, dropped, nothing, gives, IsChain, Reaches}
+use Rattle.switch_model.specs.Reach.{Lead, direct, onward, to_cpu, dropped, nothing, leads, IsChain, Reaches}
 use Rattle.switch_model.specs.ReachLaws.{reaches_first, HasHops, followed-has_hops, has_hops-routed, route_prefix}
 
 distinct_push : {A : Type 0} (xs : List A) (y : A) → IsDistinct xs → (Contains xs y → ⊥) → IsDistinct (xs ++ y ∷ [])
@@ -38,7 +38,7 @@ grows_none a = record {
   distinct = λ k. k;
 }
 
-grows_then : (a b c : Gathered) (P Q R : Met → Type 0) → Grows a b P → Grows b c Q → ((m : Met) → R m → P m ⊎ Q m) → ((m : Met) → P m ⊎ Q m → R m) → Grows a c R
+grows_then : (a b c : Gathered) (P Q R : Lead → Type 0) → Grows a b P → Grows b c Q → ((m : Lead) → R m → P m ⊎ Q m) → ((m : Lead) → P m ⊎ Q m → R m) → Grows a c R
 grows_then a b c P Q R first next parts whole = record {
   stays = λ m h. next.stays m (first.stays m h);
   takes = λ m h. elim (parts m h) [ inl p ↦ next.stays m (first.takes m p) | inr q ↦ next.takes m q ];
@@ -50,30 +50,30 @@ grows_then a b c P Q R first next parts whole = record {
   distinct = λ k. next.distinct (first.distinct k);
 }
 
-pub grows_same : (a b : Gathered) (xs ys : List Met) → Grows a b (Contains xs) → xs ≡ ys → Grows a b (Contains ys)
-grows_same a b xs ys g is = let P : List Met → Type 0 = λ l. Grows a b (Contains l) in subst P is g
+pub grows_same : (a b : Gathered) (xs ys : List Lead) → Grows a b (Contains xs) → xs ≡ ys → Grows a b (Contains ys)
+grows_same a b xs ys g is = let P : List Lead → Type 0 = λ l. Grows a b (Contains l) in subst P is g
 
 -- one more hop
-pub grows_hop : (f : Hop → Met) (hops : List Hop) (i : ℕ) (hop : Hop) (x : Met) (a b c : Gathered) → i < length hops → hop ≡ get_or hops i hop → x ≡ f hop → Grows a b (Contains (map f (take i hops))) → Grows b c (λ m. m ≡ x) → Grows a c (Contains (map f (take (i + 1) hops)))
+pub grows_hop : (f : Hop → Lead) (hops : List Hop) (i : ℕ) (hop : Hop) (x : Lead) (a b c : Gathered) → i < length hops → hop ≡ get_or hops i hop → x ≡ f hop → Grows a b (Contains (map f (take i hops))) → Grows b c (λ m. m ≡ x) → Grows a c (Contains (map f (take (i + 1) hops)))
 grows_hop f hops i hop x a b c within at met first next =
     let done = map f (take i hops) in
     let more : map f (take (i + 1) hops) ≡ done ++ x ∷ [] =
     ap (map f) (take_more hops i hop within) ∙ map-append f (take i hops) (get_or hops i hop ∷ []) ∙ ap (λ y. done ++ y ∷ []) (ap f (sym at) ∙ sym met) in
-    let P : List Met → Type 0 = λ l. Grows a c (Contains l) in
-    let Q : Met → Type 0 = λ y. Contains (done ++ x ∷ []) y in
+    let P : List Lead → Type 0 = λ l. Grows a c (Contains l) in
+    let Q : Lead → Type 0 = λ y. Contains (done ++ x ∷ []) y in
     subst P (sym more) (grows_then a b c (Contains done) (λ m. m ≡ x) (Contains (done ++ x ∷ [])) first next
     (λ m has. elim (Contains-push_cases done x m has) [ inl old ↦ inl old | inr e ↦ inr (sym e) ])
     (λ m has. elim has [ inl old ↦ Contains-append_left done (x ∷ []) m old | inr e ↦ subst Q (sym e) (Contains-push done x) ]))
 
 -- one more host
-host_stays : (a b : Gathered) (host : HostKey) → b.seen ≡ a.seen → b.hosts.items ≡ a.hosts.items ++ host ∷ [] → b.cpu ≡ a.cpu → b.discard ≡ a.discard → (m : Met) → Holds a m → Holds b m
+host_stays : (a b : Gathered) (host : HostKey) → b.seen ≡ a.seen → b.hosts.items ≡ a.hosts.items ++ host ∷ [] → b.cpu ≡ a.cpu → b.discard ≡ a.discard → (m : Lead) → Holds a m → Holds b m
 host_stays a b host seen hosts cpu discard (direct h) has = let P : List HostKey → Type 0 = λ l. Contains l h in subst P (sym hosts) (Contains-append_left a.hosts.items (host ∷ []) h has)
 host_stays a b host seen hosts cpu discard (onward q) has = rw seen has
 host_stays a b host seen hosts cpu discard to_cpu has = cpu ∙ has
 host_stays a b host seen hosts cpu discard dropped has = discard ∙ has
 host_stays a b host seen hosts cpu discard nothing has = tt
 
-host_only : (a b : Gathered) (host : HostKey) → b.seen ≡ a.seen → b.hosts.items ≡ a.hosts.items ++ host ∷ [] → b.cpu ≡ a.cpu → b.discard ≡ a.discard → (m : Met) → Holds b m → Holds a m ⊎ (m ≡ direct host)
+host_only : (a b : Gathered) (host : HostKey) → b.seen ≡ a.seen → b.hosts.items ≡ a.hosts.items ++ host ∷ [] → b.cpu ≡ a.cpu → b.discard ≡ a.discard → (m : Lead) → Holds b m → Holds a m ⊎ (m ≡ direct host)
 host_only a b host seen hosts cpu discard (direct h) has =
     let P : List HostKey → Type 0 = λ l. Contains l h in
     elim (Contains-push_cases a.hosts.items host h (subst P hosts has)) [ inl old ↦ inl old | inr same ↦ inr (ap direct (sym same)) ]
@@ -82,11 +82,11 @@ host_only a b host seen hosts cpu discard to_cpu has = inl (sym cpu ∙ has)
 host_only a b host seen hosts cpu discard dropped has = inl (sym discard ∙ has)
 host_only a b host seen hosts cpu discard nothing has = inl tt
 
-pub grows_host : (a b : Gathered) (host : HostKey) → b.seen ≡ a.seen → b.hosts.items ≡ a.hosts.items ++ host ∷ [] → b.cpu ≡ a.cpu → b.discard ≡ a.discard → (x : Met) → x ≡ direct host → Grows a b (λ m. m ≡ x)
+pub grows_host : (a b : Gathered) (host : HostKey) → b.seen ≡ a.seen → b.hosts.items ≡ a.hosts.items ++ host ∷ [] → b.cpu ≡ a.cpu → b.discard ≡ a.discard → (x : Lead) → x ≡ direct host → Grows a b (λ m. m ≡ x)
 grows_host a b host seen hosts cpu discard x is =
     let P : List HostKey → Type 0 = λ l. Contains l host in
     let D : List Cidr → Type 0 = λ l. IsDistinct l in
-    let Q : Met → Type 0 = λ m. Holds b m in
+    let Q : Lead → Type 0 = λ m. Holds b m in
     record {
       stays = host_stays a b host seen hosts cpu discard;
       takes = λ m e. subst Q (sym (e ∙ is)) (subst P (sym hosts) (Contains-push a.hosts.items host));
@@ -96,14 +96,14 @@ grows_host a b host seen hosts cpu discard x is =
     }
 
 -- one more route on the way
-route_stays : (a b : Gathered) (q : Cidr) → b.seen.items ≡ a.seen.items ++ q ∷ [] → b.hosts ≡ a.hosts → b.cpu ≡ a.cpu → b.discard ≡ a.discard → (m : Met) → Holds a m → Holds b m
+route_stays : (a b : Gathered) (q : Cidr) → b.seen.items ≡ a.seen.items ++ q ∷ [] → b.hosts ≡ a.hosts → b.cpu ≡ a.cpu → b.discard ≡ a.discard → (m : Lead) → Holds a m → Holds b m
 route_stays a b q seen hosts cpu discard (direct h) has = rw hosts has
 route_stays a b q seen hosts cpu discard (onward r) has = let P : List Cidr → Type 0 = λ l. Contains l r in subst P (sym seen) (Contains-append_left a.seen.items (q ∷ []) r has)
 route_stays a b q seen hosts cpu discard to_cpu has = cpu ∙ has
 route_stays a b q seen hosts cpu discard dropped has = discard ∙ has
 route_stays a b q seen hosts cpu discard nothing has = tt
 
-route_only : (a b : Gathered) (q : Cidr) → b.seen.items ≡ a.seen.items ++ q ∷ [] → b.hosts ≡ a.hosts → b.cpu ≡ a.cpu → b.discard ≡ a.discard → (m : Met) → Holds b m → Holds a m ⊎ (m ≡ onward q)
+route_only : (a b : Gathered) (q : Cidr) → b.seen.items ≡ a.seen.items ++ q ∷ [] → b.hosts ≡ a.hosts → b.cpu ≡ a.cpu → b.discard ≡ a.discard → (m : Lead) → Holds b m → Holds a m ⊎ (m ≡ onward q)
 route_only a b q seen hosts cpu discard (direct h) has = inl (rw (← hosts) has)
 route_only a b q seen hosts cpu discard (onward r) has =
     let P : List Cidr → Type 0 = λ l. Contains l r in
@@ -112,11 +112,11 @@ route_only a b q seen hosts cpu discard to_cpu has = inl (sym cpu ∙ has)
 route_only a b q seen hosts cpu discard dropped has = inl (sym discard ∙ has)
 route_only a b q seen hosts cpu discard nothing has = inl tt
 
-pub grows_route : (a b : Gathered) (q : Cidr) → b.seen.items ≡ a.seen.items ++ q ∷ [] → b.hosts ≡ a.hosts → b.cpu ≡ a.cpu → b.discard ≡ a.discard → (Contains a.seen.items q → ⊥) → (x : Met) → x ≡ onward q → Grows a b (λ m. m ≡ x)
+pub grows_route : (a b : Gathered) (q : Cidr) → b.seen.items ≡ a.seen.items ++ q ∷ [] → b.hosts ≡ a.hosts → b.cpu ≡ a.cpu → b.discard ≡ a.discard → (Contains a.seen.items q → ⊥) → (x : Lead) → x ≡ onward q → Grows a b (λ m. m ≡ x)
 grows_route a b q seen hosts cpu discard new x is =
     let P : List Cidr → Type 0 = λ l. Contains l q in
     let D : List Cidr → Type 0 = λ l. IsDistinct l in
-    let Q : Met → Type 0 = λ m. Holds b m in
+    let Q : Lead → Type 0 = λ m. Holds b m in
     record {
       stays = route_stays a b q seen hosts cpu discard;
       takes = λ m e. subst Q (sym (e ∙ is)) (subst P (sym seen) (Contains-push a.seen.items q));
@@ -145,8 +145,8 @@ not_there xs ys q found same is unmet has =
     cc
 
 -- an end, or what is there already
-grows_there : (a : Gathered) (x : Met) → Holds a x → Grows a a (λ m. m ≡ x)
-grows_there a x here = let Q : Met → Type 0 = λ m. Holds a m in record {
+grows_there : (a : Gathered) (x : Lead) → Holds a x → Grows a a (λ m. m ≡ x)
+grows_there a x here = let Q : Lead → Type 0 = λ m. Holds a m in record {
   stays = λ m h. h;
   takes = λ m e. subst Q (sym e) here;
   only = λ m h. inl h;
@@ -154,11 +154,11 @@ grows_there a x here = let Q : Met → Type 0 = λ m. Holds a m in record {
   distinct = λ k. k;
 }
 
-pub grows_met : (a : Gathered) (q : Cidr) (x : Met) → x ≡ onward q → Contains a.seen.items q → Grows a a (λ m. m ≡ x)
-grows_met a q x is here = let Q : Met → Type 0 = λ m. Holds a m in grows_there a x (subst Q (sym is) here)
+pub grows_met : (a : Gathered) (q : Cidr) (x : Lead) → x ≡ onward q → Contains a.seen.items q → Grows a a (λ m. m ≡ x)
+grows_met a q x is here = let Q : Lead → Type 0 = λ m. Holds a m in grows_there a x (subst Q (sym is) here)
 
 -- the start, or nothing, or what the start reaches
-pub data HasCause (rib : Rib) (vrf : ℕ) (start : Cidr) (m : Met) : Type 0 where
+pub data HasCause (rib : Rib) (vrf : ℕ) (start : Cidr) (m : Lead) : Type 0 where
   is_start : m ≡ onward start → HasCause rib vrf start m
   is_nothing : m ≡ nothing → HasCause rib vrf start m
   is_reached : Reaches rib vrf start m → HasCause rib vrf start m
@@ -168,22 +168,22 @@ pub record IsAt (rib : Rib) (vrf : ℕ) (start : Cidr) (done : ℕ) (all : Gathe
   pub within : done ≤ length all.seen.items
   pub first : Contains all.seen.items start
   pub distinct : IsDistinct all.seen.items
-  pub sound : (m : Met) → Holds all m → HasCause rib vrf start m
-  pub complete : (k : ℕ) (d : Cidr) → k < done → (m : Met) → Contains (gives rib vrf (get_or all.seen.items k d)) m → Holds all m
+  pub sound : (m : Lead) → Holds all m → HasCause rib vrf start m
+  pub complete : (k : ℕ) (d : Cidr) → k < done → (m : Lead) → Contains (leads rib vrf (get_or all.seen.items k d)) m → Holds all m
 
-chain_more : (rib : Rib) (vrf : ℕ) (p : Cidr) (members : List Cidr) (q r : Cidr) → IsChain rib vrf p members q → Contains (gives rib vrf q) (onward r) → IsChain rib vrf p (members ++ r ∷ []) r
-chain_more rib vrf p [] q r e given = let P : Cidr → Type 0 = λ x. Contains (gives rib vrf x) (onward r) in (subst P (sym e) given, refl)
+chain_more : (rib : Rib) (vrf : ℕ) (p : Cidr) (members : List Cidr) (q r : Cidr) → IsChain rib vrf p members q → Contains (leads rib vrf q) (onward r) → IsChain rib vrf p (members ++ r ∷ []) r
+chain_more rib vrf p [] q r e given = let P : Cidr → Type 0 = λ x. Contains (leads rib vrf x) (onward r) in (subst P (sym e) given, refl)
 chain_more rib vrf p (s ∷ ss) q r chain given = (chain.0, chain_more rib vrf s ss q r chain.1 given)
 
-reaches_more : (rib : Rib) (vrf : ℕ) (p q : Cidr) (m : Met) → Reaches rib vrf p (onward q) → Contains (gives rib vrf q) m → Reaches rib vrf p m
+reaches_more : (rib : Rib) (vrf : ℕ) (p q : Cidr) (m : Lead) → Reaches rib vrf p (onward q) → Contains (leads rib vrf q) m → Reaches rib vrf p m
 reaches_more rib vrf p q m r given = record { last = q; members = r.members ++ q ∷ []; chain = chain_more rib vrf p r.members r.last q r.chain r.given; given = given }
 
-cause_then : (rib : Rib) (vrf : ℕ) (start q : Cidr) → HasCause rib vrf start (onward q) → (m : Met) → Contains (gives rib vrf q) m → Reaches rib vrf start m
-cause_then rib vrf start q (is_start e) m given = let same : q ≡ start = cc in let P : Cidr → Type 0 = λ x. Contains (gives rib vrf x) m in reaches_first rib vrf start m (subst P same given)
+cause_then : (rib : Rib) (vrf : ℕ) (start q : Cidr) → HasCause rib vrf start (onward q) → (m : Lead) → Contains (leads rib vrf q) m → Reaches rib vrf start m
+cause_then rib vrf start q (is_start e) m given = let same : q ≡ start = cc in let P : Cidr → Type 0 = λ x. Contains (leads rib vrf x) m in reaches_first rib vrf start m (subst P same given)
 cause_then rib vrf start q (is_nothing e) m given = absurd (cc)
 cause_then rib vrf start q (is_reached r) m given = reaches_more rib vrf start q m r given
 
-pub at_more : (rib : Rib) (vrf : ℕ) (start : Cidr) (done : ℕ) (q : Cidr) (a b : Gathered) → IsAt rib vrf start done a → done < length a.seen.items → q ≡ get_or a.seen.items done q → Grows a b (Contains (gives rib vrf q)) → IsAt rib vrf start (done + 1) b
+pub at_more : (rib : Rib) (vrf : ℕ) (start : Cidr) (done : ℕ) (q : Cidr) (a b : Gathered) → IsAt rib vrf start done a → done < length a.seen.items → q ≡ get_or a.seen.items done q → Grows a b (Contains (leads rib vrf q)) → IsAt rib vrf start (done + 1) b
 at_more rib vrf start done q a b at lt is g =
     let kept_place : (k : ℕ) (d : Cidr) → k < length a.seen.items → get_or b.seen.items k d ≡ get_or a.seen.items k d =
     λ k d l. ap (λ s. get_or s k d) g.queue.1 ∙ get_or_append_left a.seen.items g.queue.0 d k l in
@@ -194,9 +194,9 @@ at_more rib vrf start done q a b at lt is g =
       distinct = g.distinct at.distinct;
       sound = λ m h. elim (g.only m h) [ inl old ↦ at.sound m old | inr given ↦ is_reached (cause_then rib vrf start q (at.sound (onward q) on_way) m given) ];
       complete = λ k d l m given.
-          let P : Cidr → Type 0 = λ x. Contains (gives rib vrf x) m in
+          let P : Cidr → Type 0 = λ x. Contains (leads rib vrf x) m in
           let below : k < length a.seen.items = omega arith in
-          let old_given : Contains (gives rib vrf (get_or a.seen.items k d)) m = subst P (kept_place k d below) given in
+          let old_given : Contains (leads rib vrf (get_or a.seen.items k d)) m = subst P (kept_place k d below) given in
           elim (cases_lt k done) [
             | inl before ↦ g.stays m (at.complete k d before m old_given)
             | inr here ↦
@@ -205,20 +205,20 @@ at_more rib vrf start done q a b at lt is g =
           ];
     }
 
-reached-as : (rib : Rib) (vrf : ℕ) (start : Cidr) (m : Met) → HasCause rib vrf start m → (m ≡ onward start → ⊥) → (m ≡ nothing → ⊥) → Reaches rib vrf start m
+reached-as : (rib : Rib) (vrf : ℕ) (start : Cidr) (m : Lead) → HasCause rib vrf start m → (m ≡ onward start → ⊥) → (m ≡ nothing → ⊥) → Reaches rib vrf start m
 reached-as rib vrf start m (is_start e) not none = absurd (not e)
 reached-as rib vrf start m (is_nothing e) not none = absurd (none e)
 reached-as rib vrf start m (is_reached r) not none = r
 
-chain_stays : (rib : Rib) (vrf : ℕ) (all : Gathered) → ((q r : Cidr) → Holds all (onward q) → Contains (gives rib vrf q) (onward r) → Holds all (onward r)) → (p : Cidr) (members : List Cidr) (q : Cidr) → IsChain rib vrf p members q → Holds all (onward p) → Holds all (onward q)
+chain_stays : (rib : Rib) (vrf : ℕ) (all : Gathered) → ((q r : Cidr) → Holds all (onward q) → Contains (leads rib vrf q) (onward r) → Holds all (onward r)) → (p : Cidr) (members : List Cidr) (q : Cidr) → IsChain rib vrf p members q → Holds all (onward p) → Holds all (onward q)
 chain_stays rib vrf all passes p [] q e here = let P : Cidr → Type 0 = λ x. Holds all (onward x) in subst P e here
 chain_stays rib vrf all passes p (r ∷ rs) q chain here = chain_stays rib vrf all passes r rs q chain.1 (passes p r here chain.0)
 
 pub at_end : (rib : Rib) (vrf : ℕ) (start : Cidr) (done : ℕ) (all : Gathered) → IsAt rib vrf start done all → length all.seen.items ≤ done → AreEnds rib vrf start all.hosts.items all.cpu all.discard
 at_end rib vrf start done all at over =
-    let closed : (q : Cidr) (m : Met) → Holds all (onward q) → Contains (gives rib vrf q) m → Holds all m =
-    λ q m on_way given. let P : Cidr → Type 0 = λ x. Contains (gives rib vrf x) m in let k_below : on_way.0 < length all.seen.items = on_way.1 in at.complete on_way.0 q (omega arith) m (subst P (sym on_way.2) given) in
-    let has : (m : Met) → Reaches rib vrf start m → Holds all m =
+    let closed : (q : Cidr) (m : Lead) → Holds all (onward q) → Contains (leads rib vrf q) m → Holds all m =
+    λ q m on_way given. let P : Cidr → Type 0 = λ x. Contains (leads rib vrf x) m in let k_below : on_way.0 < length all.seen.items = on_way.1 in at.complete on_way.0 q (omega arith) m (subst P (sym on_way.2) given) in
+    let has : (m : Lead) → Reaches rib vrf start m → Holds all m =
     λ m r. closed r.last m (chain_stays rib vrf all (λ q s h g. closed q (onward s) h g) start r.members r.last r.chain at.first) r.given in
     record {
       by_host = λ h. (λ held. reached-as rib vrf start (direct h) (at.sound (direct h) held) (λ e. cc) (λ e. cc), has (direct h));
@@ -238,7 +238,7 @@ few_seen rib vrf start done all at has =
     few_distinct all.seen.items (map route_prefix rib.routes) at.distinct (λ q h. on_way_routed rib vrf start q has (at.sound (onward q) h)) in
     omega (arith, few, length-map rib.routes route_prefix)
 
-start_sound : (rib : Rib) (vrf : ℕ) (start : Cidr) (all : Gathered) → all.seen.items ≡ start ∷ [] → all.hosts.items ≡ [] → all.cpu ≡ false → all.discard ≡ false → (m : Met) → Holds all m → HasCause rib vrf start m
+start_sound : (rib : Rib) (vrf : ℕ) (start : Cidr) (all : Gathered) → all.seen.items ≡ start ∷ [] → all.hosts.items ≡ [] → all.cpu ≡ false → all.discard ≡ false → (m : Lead) → Holds all m → HasCause rib vrf start m
 start_sound rib vrf start all seen hosts cpu discard (direct h) has = let P : List HostKey → Type 0 = λ l. Contains l h in absurd (contains_none h (subst P hosts has))
 start_sound rib vrf start all seen hosts cpu discard (onward q) has =
     let P : List Cidr → Type 0 = λ l. Contains l q in

@@ -6,21 +6,22 @@ use Rattle.net_types.specs.Cidr.{Cidr}
 use Rattle.net_types.specs.declared.client.Client.{Client}
 use Rattle.switch_model.specs.declared.record.RouteRec.{RouteRec}
 use Rattle.plain_resolver.specs.declared.gather.Gathered.{Gathered}
-use Rattle.plain_resolver.specs.declared.gather.Lead.{Lead}
-use Rattle.plain_resolver.specs.declared.gather.Lead.TheVariants as lead
+use Rattle.plain_resolver.specs.declared.gather.HopLead.{HopLead}
+use Rattle.plain_resolver.specs.declared.gather.HopLead.TheVariants as answer
 use Rattle.switch_model.specs.BestRoute.{learnt, best}
 use Rattle.switch_model.specs.PlainState.{Rib}
-use Rattle.switch_model.specs.Reach.{Met, direct, onward, to_cpu, dropped, nothing}
+use Rattle.switch_model.specs.Reach.{Lead, direct, onward, to_cpu, dropped, nothing}
 
-abbrev pub met_of : Lead → Met
-met_of (lead.Direct host) = direct host
-met_of (lead.Onward prefix) = onward prefix
-met_of lead.ToCpu = to_cpu
-met_of lead.Discard = dropped
-met_of lead.Nothing = nothing
+-- what the answer says
+abbrev pub lead_of : HopLead → Lead
+lead_of (answer.Direct host) = direct host
+lead_of (answer.Onward prefix) = onward prefix
+lead_of answer.ToCpu = to_cpu
+lead_of answer.Discard = dropped
+lead_of answer.Nothing = nothing
 
 -- it is gathered
-abbrev pub Holds : Gathered → Met → Type 0
+abbrev pub Holds : Gathered → Lead → Type 0
 Holds all (direct host) = Contains all.hosts.items host
 Holds all (onward prefix) = Contains all.seen.items prefix
 Holds all to_cpu = IsTrue all.cpu
@@ -28,10 +29,10 @@ Holds all dropped = IsTrue all.discard
 Holds all nothing = Unit {0}
 
 -- exactly what has P is gathered newly, and the routes on the way grew at their end
-pub record Grows (old new : Gathered) (P : Met → Type 0) : Type 0 where
-  pub stays : (met : Met) → Holds old met → Holds new met
-  pub takes : (met : Met) → P met → Holds new met
-  pub only : (met : Met) → Holds new met → Holds old met ⊎ P met
+pub record Grows (old new : Gathered) (P : Lead → Type 0) : Type 0 where
+  pub stays : (met : Lead) → Holds old met → Holds new met
+  pub takes : (met : Lead) → P met → Holds new met
+  pub only : (met : Lead) → Holds new met → Holds old met ⊎ P met
   pub queue : (more : List Cidr) × (new.seen.items ≡ old.seen.items ++ more)
   pub distinct : IsDistinct old.seen.items → IsDistinct new.seen.items
 

@@ -8,10 +8,10 @@ ghost use Rattle.net_types.specs.declared.ip.Ip.{Ip};
 ghost use Rattle.switch_model.specs.Addresses.{same_addr};
 ghost use Rattle.switch_model.specs.BestRoute.{learnt};
 ghost use Rattle.switch_model.specs.Ends.{AreEnds};
-ghost use Rattle.plain_resolver.specs.Gathered.{met_of, Grows};
+ghost use Rattle.plain_resolver.specs.Gathered.{lead_of, Grows};
 ghost use Rattle.switch_model.specs.Looking.{best_route};
 ghost use Rattle.switch_model.specs.LongestMatch.{longest_match};
-ghost use Rattle.switch_model.specs.Reach.{gives, hops_of_best, is_of_vrf, meets, met_at};
+ghost use Rattle.switch_model.specs.Reach.{leads, hops_of_best, is_of_vrf, leads_to, lead_of_match};
 ghost use Rattle.switch_model.specs.ReachLaws.{HasHops};
 
 use net_types::{Hop, HostKey, Intf, Ip, NoMemory, Prefix, Vrf, compare_prefixes};
@@ -20,7 +20,7 @@ use switch_model::{Best, BestRoutes, RouteRec};
 
 /// What a hop leads to.
 #[derive(Clone, Copy, Debug)]
-pub enum Lead {
+pub enum HopLead {
     Direct(HostKey),
     /// A route with hops of its own.
     Onward(Prefix),
@@ -71,7 +71,7 @@ fn follow<R: BestRoutes>(
     prefix: &Prefix,
     all: &mut Gathered,
 ) -> Result<(), NoMemory>
-    ensures { OnOk result (Grows all.old all.new (Contains (gives (R.rib routes.now) vrf prefix.now))) }
+    ensures { OnOk result (Grows all.old all.new (Contains (leads (R.rib routes.now) vrf prefix.now))) }
 {
     if let Some(Best::Route(_, route)) = routes.best(vrf, prefix) {
         follow_hops(routes, vrf, hops_of(route), all)?;
@@ -85,28 +85,28 @@ fn follow_hops<R: BestRoutes>(
     hops: &[Hop],
     all: &mut Gathered,
 ) -> Result<(), NoMemory>
-    ensures { OnOk result (Grows all.old all.new (Contains (map (meets (R.rib routes.now) vrf) hops.now))) }
+    ensures { OnOk result (Grows all.old all.new (Contains (map (leads_to (R.rib routes.now) vrf) hops.now))) }
 {
     for hop in hops {
-        add(all, meet(routes, vrf, hop))?;
+        add(all, lead_of_hop(routes, vrf, hop))?;
     }
     Ok(())
 }
 
 /// Adds what one hop leads to.
-fn add(all: &mut Gathered, lead: Lead) -> Result<(), NoMemory>
-    ensures { OnOk result (Grows all.old all.new (λ met. met ≡ met_of lead)) }
+fn add(all: &mut Gathered, lead: HopLead) -> Result<(), NoMemory>
+    ensures { OnOk result (Grows all.old all.new (λ met. met ≡ lead_of lead)) }
 {
     match lead {
-        Lead::Direct(host) => all.hosts.push(host)?,
-        Lead::Onward(prefix) => {
+        HopLead::Direct(host) => all.hosts.push(host)?,
+        HopLead::Onward(prefix) => {
             if !has(all.seen.as_slice(), &prefix) {
                 all.seen.push(prefix)?;
             }
         }
-        Lead::ToCpu => all.cpu = true,
-        Lead::Discard => all.discard = true,
-        Lead::Nothing => {}
+        HopLead::ToCpu => all.cpu = true,
+        HopLead::Discard => all.discard = true,
+        HopLead::Nothing => {}
     }
     Ok(())
 }
@@ -129,16 +129,16 @@ fn hops_of(route: &RouteRec) -> &[Hop]
 }
 
 /// What a hop leads to in a VRF.
-fn meet<R: BestRoutes>(routes: &R, vrf: Vrf, hop: &Hop) -> Lead
-    ensures { met_of result ≡ meets (R.rib routes.now) vrf hop.now }
+fn lead_of_hop<R: BestRoutes>(routes: &R, vrf: Vrf, hop: &Hop) -> HopLead
+    ensures { lead_of result ≡ leads_to (R.rib routes.now) vrf hop.now }
 {
     let Some(intf) = hop.intf else {
-        return meet_at(routes, vrf, hop.ip);
+        return lead_at(routes, vrf, hop.ip);
     };
     if is_of_vrf(routes, vrf, intf) {
-        return Lead::Direct(HostKey { ip: hop.ip, intf });
+        return HopLead::Direct(HostKey { ip: hop.ip, intf });
     }
-    Lead::Nothing
+    HopLead::Nothing
 }
 
 /// Whether the interface is there, and of that VRF.
@@ -152,32 +152,32 @@ fn is_of_vrf<R: BestRoutes>(routes: &R, vrf: Vrf, intf: Intf) -> bool
 }
 
 /// What an ip leads to by its longest match.
-fn meet_at<R: BestRoutes>(routes: &R, vrf: Vrf, ip: Ip) -> Lead
-    ensures { met_of result ≡ met_at ip (longest_match (R.rib routes.now) vrf ip) }
+fn lead_at<R: BestRoutes>(routes: &R, vrf: Vrf, ip: Ip) -> HopLead
+    ensures { lead_of result ≡ lead_of_match ip (longest_match (R.rib routes.now) vrf ip) }
 {
     match routes.longest(vrf, ip) {
         Some((prefix, best)) => lead_by(ip, prefix, &best),
-        None => Lead::Nothing,
+        None => HopLead::Nothing,
     }
 }
 
 /// What an ip leads to whose longest match is that prefix, with that best route.
-fn lead_by(ip: Ip, prefix: Prefix, best: &Best<'_>) -> Lead
-    ensures { met_of result ≡ met_at ip (Some (prefix, best_route best.now)) }
+fn lead_by(ip: Ip, prefix: Prefix, best: &Best<'_>) -> HopLead
+    ensures { lead_of result ≡ lead_of_match ip (Some (prefix, best_route best.now)) }
 {
     match best {
-        Best::Connected(intf) => Lead::Direct(HostKey { ip, intf: *intf }),
+        Best::Connected(intf) => HopLead::Direct(HostKey { ip, intf: *intf }),
         Best::Route(_, route) => lead_along(prefix, route),
     }
 }
 
 /// What a route to a prefix leads to.
-fn lead_along(prefix: Prefix, route: &RouteRec) -> Lead
-    ensures { (ip : Ip) (client : Client) → met_of result ≡ met_at ip (Some (prefix, learnt client route.now)) }
+fn lead_along(prefix: Prefix, route: &RouteRec) -> HopLead
+    ensures { (ip : Ip) (client : Client) → lead_of result ≡ lead_of_match ip (Some (prefix, learnt client route.now)) }
 {
     match route {
-        RouteRec::Hops(_) => Lead::Onward(prefix),
-        RouteRec::ToCpu => Lead::ToCpu,
-        RouteRec::Discard => Lead::Discard,
+        RouteRec::Hops(_) => HopLead::Onward(prefix),
+        RouteRec::ToCpu => HopLead::ToCpu,
+        RouteRec::Discard => HopLead::Discard,
     }
 }

@@ -2,9 +2,9 @@
 ghost use Rattle.std.specs.Prelude.{◌≡◌, IfOk, map, take};
 ghost use Rattle.keyed.specs.Sets.{set_of};
 ghost use Rattle.net_types.specs.KeyOrder.{host_cmp};
-ghost use Rattle.switch_model.specs.Fib.{end_by, fib, hop_to};
+ghost use Rattle.switch_model.specs.Fib.{entry_of_ends, fib, hop_of_host};
 ghost use Rattle.plain_resolver.specs.Gathered.{IsBest};
-ghost use Rattle.switch_model.specs.Looking.{entry_of};
+ghost use Rattle.switch_model.specs.Looking.{resolved_entry};
 ghost use Rattle.switch_model.specs.PlainState.{Rib};
 
 use crate::gather::{Gathered, gather};
@@ -51,7 +51,7 @@ fn resolve<R: BestRoutes>(
     vrf: Vrf,
     prefix: &Prefix,
 ) -> Result<Resolved, NoMemory>
-    ensures { IfOk result (λ found. entry_of found ≡ fib (R.rib routes.now) vrf prefix.now) }
+    ensures { IfOk result (λ found. resolved_entry found ≡ fib (R.rib routes.now) vrf prefix.now) }
 {
     let Some(best) = routes.best(vrf, prefix) else {
         return Ok(Resolved::Nothing);
@@ -71,7 +71,7 @@ fn resolve_route<R: BestRoutes>(
     route: &RouteRec,
 ) -> Result<Resolved, NoMemory>
     requires { IsBest (R.rib routes.now) vrf prefix.now route.now }
-    ensures { IfOk result (λ found. entry_of found ≡ fib (R.rib routes.now) vrf prefix.now) }
+    ensures { IfOk result (λ found. resolved_entry found ≡ fib (R.rib routes.now) vrf prefix.now) }
 {
     match route {
         RouteRec::ToCpu => Ok(Resolved::ToCpu),
@@ -87,7 +87,7 @@ fn resolve_route<R: BestRoutes>(
 /// What becomes of packets where these ends are reached: the first direct hops, else the CPU, else
 /// drop.
 fn end_of(alloc: Global, all: &Gathered) -> Result<Resolved, NoMemory>
-    ensures { IfOk result (λ end. entry_of end ≡ end_by (take 64 (set_of host_cmp all.now.hosts.items)) all.now.cpu all.now.discard) }
+    ensures { IfOk result (λ end. resolved_entry end ≡ entry_of_ends (take 64 (set_of host_cmp all.now.hosts.items)) all.now.cpu all.now.discard) }
 {
     if !all.hosts.is_empty() {
         let hops = first_hops(alloc, all.hosts.as_slice())?;
@@ -104,7 +104,7 @@ fn end_of(alloc: Global, all: &Gathered) -> Result<Resolved, NoMemory>
 
 /// The first hosts, by ip and then interface, as hops.
 fn first_hops(alloc: Global, hosts: &[HostKey]) -> Result<HopSet, NoMemory>
-    ensures { IfOk result (λ hops. hops ≡ map hop_to (take 64 (set_of host_cmp hosts.now))) }
+    ensures { IfOk result (λ hops. hops ≡ map hop_of_host (take 64 (set_of host_cmp hosts.now))) }
 {
     let hops = hops_to(alloc, hosts)?;
     let all = HopSet::of(alloc, &hops)?;
@@ -122,7 +122,7 @@ fn first_of(alloc: Global, hops: &[Hop]) -> Result<HopList, NoMemory>
 }
 
 fn hops_to(alloc: Global, hosts: &[HostKey]) -> Result<HopList, NoMemory>
-    ensures { IfOk result (λ hops. hops ≡ map hop_to hosts.now) }
+    ensures { IfOk result (λ hops. hops ≡ map hop_of_host hosts.now) }
 {
     let mut hops = HopList::new(alloc);
     for host in hosts {

@@ -1,16 +1,16 @@
 // Acts on interfaces and their addresses.
-ghost use Rattle.std.specs.Prelude.{◌≡◌, ◌==◌, ◌∷◌, [], is_none, is_some, length, not};
-ghost use Rattle.net_types.specs.Unicast.{is_unicast};
-ghost use Rattle.switch_model.specs.Facts.{addrs_at, intf_of_vlan};
+ghost use Rattle.std.specs.Prelude.{◌≡◌, ◌&&◌, ◌==◌, ◌∷◌, [], length, not};
+ghost use Rattle.net_types.specs.Prefix.{subnet_of};
+ghost use Rattle.switch_model.specs.Addresses.{has_subnet};
+ghost use Rattle.switch_model.specs.Facts.{addrs_at, has_addr, has_intf, has_ip, is_bad_mac, no_vlan, overlaps_other, vlan_has_intf};
 ghost use Rattle.switch_model.specs.First.{first_that_holds};
-ghost use Rattle.switch_model.specs.PlainState.{intf_at, vlan_at};
-ghost use Rattle.switch_model.specs.Reason.{has_addr, has_ip, overlaps_by_subnet, port_reasons};
+ghost use Rattle.switch_model.specs.Reason.{port_reasons};
 
 use net_types::{Addr, Intf, Mac, Vlan};
 use switch_model::{Act, Lookup, Reason};
 
 pub(crate) fn intf_add<L: Lookup>(state: &L, intf: Intf, vlan: Vlan, mac: Mac) -> Option<Reason>
-    ensures { result ≡ first_that_holds ((Reason.NoVlan, is_none (vlan_at (L.plain state.now) vlan)) ∷ (Reason.IntfExists, is_some (intf_at (L.plain state.now) intf)) ∷ (Reason.VlanHasIntf, is_some (intf_of_vlan (L.plain state.now) vlan)) ∷ (Reason.BadMac, not (is_unicast mac)) ∷ []) }
+    ensures { result ≡ first_that_holds ((Reason.NoVlan, no_vlan (L.plain state.now) vlan) ∷ (Reason.IntfExists, has_intf (L.plain state.now) intf) ∷ (Reason.VlanHasIntf, vlan_has_intf (L.plain state.now) vlan) ∷ (Reason.BadMac, is_bad_mac mac) ∷ []) }
 {
     if !state.vlan(vlan) {
         return Some(Reason::NoVlan);
@@ -48,7 +48,7 @@ pub(crate) fn addr_add<L: Lookup>(state: &L, intf: Intf, addr: &Addr) -> Option<
     if has_ip(state, intf, addr) {
         return Some(Reason::AddrExists);
     }
-    if overlaps_by_subnet(state, intf, addr) {
+    if overlaps_other(state, intf, addr) {
         return Some(Reason::AddrOverlap);
     }
     None
@@ -70,7 +70,7 @@ pub(crate) fn addr_del<L: Lookup>(state: &L, intf: Intf, addr: &Addr) -> Option<
 }
 
 fn has_intf<L: Lookup>(state: &L, intf: Intf) -> bool
-    ensures { result ≡ is_some (intf_at (L.plain state.now) intf) }
+    ensures { result ≡ has_intf (L.plain state.now) intf }
 {
     state.intf(intf).is_some()
 }
@@ -102,8 +102,8 @@ fn has_addr<L: Lookup>(state: &L, intf: Intf, addr: &Addr) -> bool
     }
 }
 
-fn overlaps_by_subnet<L: Lookup>(state: &L, intf: Intf, addr: &Addr) -> bool
-    ensures { result ≡ overlaps_by_subnet (L.plain state.now) intf addr.now }
+fn overlaps_other<L: Lookup>(state: &L, intf: Intf, addr: &Addr) -> bool
+    ensures { result ≡ has_subnet addr.now && overlaps_other (L.plain state.now) intf (subnet_of addr.now) }
 {
     !addr.ip().is_link_local() && state.overlaps_other(intf, &addr.subnet())
 }

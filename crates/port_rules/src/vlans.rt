@@ -1,14 +1,14 @@
 // Acts on VLANs and ports.
-ghost use Rattle.std.specs.Prelude.{◌≡◌, ◌∷◌, [], is_none, is_some};
+ghost use Rattle.std.specs.Prelude.{◌≡◌, ◌∷◌, []};
 ghost use Rattle.switch_model.specs.First.{first_that_holds};
-ghost use Rattle.switch_model.specs.PlainState.{port_at, vlan_at};
+ghost use Rattle.switch_model.specs.Facts.{has_vlan, no_port};
 ghost use Rattle.switch_model.specs.Reason.{port_reasons};
 
 use net_types::{Port, Vlan};
 use switch_model::{Act, Lookup, Reason};
 
 pub(crate) fn vlan_add<L: Lookup>(state: &L, vlan: Vlan) -> Option<Reason>
-    ensures { result ≡ first_that_holds ((Reason.VlanExists, is_some (vlan_at (L.plain state.now) vlan)) ∷ []) }
+    ensures { result ≡ first_that_holds ((Reason.VlanExists, has_vlan (L.plain state.now) vlan) ∷ []) }
 {
     if state.vlan(vlan) {
         return Some(Reason::VlanExists);
@@ -68,7 +68,7 @@ pub(crate) fn port_vlan<L: Lookup>(state: &L, port: Port, vlan: Vlan) -> Option<
 }
 
 pub(crate) fn port_flip<L: Lookup>(state: &L, port: Port) -> Option<Reason>
-    ensures { result ≡ first_that_holds ((Reason.NoPort, is_none (port_at (L.plain state.now) port)) ∷ []) }
+    ensures { result ≡ first_that_holds ((Reason.NoPort, no_port (L.plain state.now) port) ∷ []) }
 {
     if state.port(port).is_none() {
         return Some(Reason::NoPort);

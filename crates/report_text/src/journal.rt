@@ -1,15 +1,14 @@
 // The journal: a line for each round, and below it one for each of its entries.
 ghost use Rattle.std.specs.Prelude.{◌≡◌, ℕ, ◌+◌, ◌<◌, ◌^◌, ◌++◌, length, OnOk, IfOk};
 ghost use Rattle.switch_model.specs.Journal.{entries_of, version_after};
-ghost use Rattle.script_text.specs.UpdateText.{update_text};
 ghost use Rattle.report_text.specs.EntryText.{entry_text, entries_text, round_text, rounds_text};
 ghost use Rattle.report_text.specs.Report.{journal_part};
 
 use crate::words::{VerdictText, kind_word};
-use net_types::{NoMemory, Text};
-use script_text::{Page, print_update};
-use std::alloc::{AllocError, Global};
-use switch_model::{Entry, Round, RoundList, Update};
+use net_types::NoMemory;
+use script_text::{Page, write_update};
+use std::alloc::AllocError;
+use switch_model::{Entry, Round, RoundList};
 
 /// The version after entries that follow this one: that of the last.
 fn version_after(version: u64, entries: &[Entry]) -> u64
@@ -21,49 +20,30 @@ fn version_after(version: u64, entries: &[Entry]) -> u64
     }
 }
 
-fn write_entry(
-    alloc: Global,
-    out: &mut Page,
-    position: usize,
-    entry: &Entry,
-) -> Result<(), NoMemory>
+fn write_entry(out: &mut Page, position: usize, entry: &Entry) -> Result<(), NoMemory>
     ensures { OnOk result (out.new ≡ out.old ++ entry_text position entry.now) }
 {
     let caller = entry.caller;
     let seq = entry.seq;
     let verdict = VerdictText(entry.verdict);
     write!(out, "{position} caller {caller} seq {seq} {verdict} ")?;
-    write_update(alloc, out, &entry.update)?;
+    write_update(out, entry.update.get())?;
     out.push_bytes(b"\n")
 }
 
-fn write_update(alloc: Global, out: &mut Page, update: &Update) -> Result<(), NoMemory>
-    ensures { OnOk result (out.new ≡ out.old ++ update_text update.now) }
-{
-    let mut text = Text::new(alloc);
-    print_update(alloc, &mut text, update)?;
-    out.push_bytes(text.as_slice())
-}
-
-fn write_entries(
-    alloc: Global,
-    out: &mut Page,
-    first: usize,
-    entries: &[Entry],
-) -> Result<(), NoMemory>
+fn write_entries(out: &mut Page, first: usize, entries: &[Entry]) -> Result<(), NoMemory>
     requires { first + length entries.now < 2 ^ 64 }
     ensures { OnOk result (out.new ≡ out.old ++ entries_text first entries.now) }
 {
     let mut position = first;
     for entry in entries {
-        write_entry(alloc, out, position, entry)?;
+        write_entry(out, position, entry)?;
         position += 1;
     }
     Ok(())
 }
 
 fn write_round(
-    alloc: Global,
     out: &mut Page,
     number: usize,
     first: usize,
@@ -75,15 +55,10 @@ fn write_round(
 {
     let kind = kind_word(round.kind);
     writeln!(out, "round {number} {kind} version {version}")?;
-    write_entries(alloc, out, first, round.entries.as_slice())
+    write_entries(out, first, round.entries.as_slice())
 }
 
-fn write_rounds(
-    alloc: Global,
-    out: &mut Page,
-    version: u64,
-    rounds: &[Round],
-) -> Result<(), NoMemory>
+fn write_rounds(out: &mut Page, version: u64, rounds: &[Round]) -> Result<(), NoMemory>
     requires { length (entries_of rounds.now) < 2 ^ 64 }
     ensures { OnOk result (out.new ≡ out.old ++ rounds_text 0 0 version rounds.now) }
 {
@@ -92,7 +67,7 @@ fn write_rounds(
     let mut after = version;
     for round in rounds {
         after = version_after(after, round.entries.as_slice());
-        write_round(alloc, out, number, first, after, round)?;
+        write_round(out, number, first, after, round)?;
         number += 1;
         first += round.entries.len();
     }
@@ -126,7 +101,6 @@ impl Totals {
 }
 
 pub(crate) fn write_journal(
-    alloc: Global,
     out: &mut Page,
     version: u64,
     rounds: &RoundList,
@@ -142,5 +116,5 @@ pub(crate) fn write_journal(
         out,
         "journal entries {entries} rounds {count} version {last}"
     )?;
-    write_rounds(alloc, out, version, rounds)
+    write_rounds(out, version, rounds)
 }

@@ -4,7 +4,6 @@
 
 mod head;
 mod journal;
-mod mac;
 mod replies;
 mod report;
 mod tables;

@@ -49,7 +49,7 @@ pub fn report_bytes(
     let mut out = Page::new(alloc);
     write_head(&mut out, head, version)?;
     write_replies(&mut out, replies)?;
-    write_journal(alloc, &mut out, version, rounds)?;
+    write_journal(&mut out, version, rounds)?;
     write_tables(&mut out, tables)?;
     write_tail(&mut out)?;
     Ok(out.into_bytes())

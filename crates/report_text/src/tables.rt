@@ -3,7 +3,6 @@ ghost use Rattle.std.specs.Prelude.{◌≡◌, ◌++◌, [], ◌∷◌, OnOk};
 ghost use Rattle.report_text.specs.RowText.{l2_text};
 ghost use Rattle.report_text.specs.Report.{tables_part};
 
-use crate::mac::MacText;
 use crate::words::up_word;
 use net_types::{L2Key, L2Row, NoMemory, Tables};
 use script_text::Page;
@@ -12,10 +11,11 @@ fn write_l2_row(out: &mut Page, entry: &(L2Key, L2Row)) -> Result<(), NoMemory>
     ensures { OnOk result (out.new ≡ out.old ++ l2_text (entry.now ∷ [])) }
 {
     let vlan = entry.0.vlan.get();
-    let mac = MacText(entry.0.mac);
+    write!(out, "l2 {vlan} ")?;
+    out.push_mac(&entry.0.mac)?;
     let port = entry.1.port.get();
     let up = up_word(entry.1.up);
-    writeln!(out, "l2 {vlan} {mac} port {port} {up}")
+    writeln!(out, " port {port} {up}")
 }
 
 fn write_l2_rows(out: &mut Page, rows: &[(L2Key, L2Row)]) -> Result<(), NoMemory>

@@ -1,6 +1,6 @@
 use super::*;
 use net_types::{
-    Caps, ItemList, L2Key, L2Row, Mac, NoMemory, Port, Table, Tables, Text, Vlan, VlanName,
+    Caps, ItemList, L2Key, L2Row, Mac, NoMemory, Port, Shared, Table, Tables, Text, Vlan, VlanName,
 };
 use std::alloc::Global;
 use std::process::Abort;
@@ -151,10 +151,13 @@ fn round_of_five(rt: &impl Abort, alloc: Global, number: u64) -> Result<Round, N
     entries.push(Entry {
         caller: 0,
         seq: number,
-        update: Update {
-            alone: false,
-            act: act_of_five(rt, alloc, number)?,
-        },
+        update: Shared::of(
+            alloc,
+            Update {
+                alone: false,
+                act: act_of_five(rt, alloc, number)?,
+            },
+        )?,
         verdict,
         version,
     })?;
@@ -267,10 +270,13 @@ fn round_of_several(
         entries.push(Entry {
             caller,
             seq,
-            update: Update {
-                alone: number == 3,
-                act,
-            },
+            update: Shared::of(
+                alloc,
+                Update {
+                    alone: number == 3,
+                    act,
+                },
+            )?,
             verdict,
             version,
         })?;

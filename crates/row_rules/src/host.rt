@@ -1,7 +1,7 @@
 // The row of a host, and whether it is live.
 ghost use Rattle.std.specs.Prelude.{◌≡◌, Some};
 ghost use Rattle.switch_model.specs.PlainState.{neighbor_at};
-ghost use Rattle.switch_model.specs.Rows.{host_act, host_row, live, live_by, neighbor_of};
+ghost use Rattle.switch_model.specs.Rows.{host_act, host_row, live, is_live_neighbor, neighbor_of_host};
 
 use crate::station::is_up;
 use net_types::{HostAct, HostKey, HostRow, Intf, Ip};
@@ -18,7 +18,7 @@ pub fn live<L: Lookup>(l: &L, intf: Intf, ip: Ip) -> bool
 }
 
 fn is_live<L: Lookup>(l: &L, neighbor: &NeighborRec) -> bool
-    ensures { result ≡ live_by (L.plain l.now) (Some neighbor.now) }
+    ensures { result ≡ is_live_neighbor (L.plain l.now) (Some neighbor.now) }
 {
     match neighbor {
         NeighborRec::Reachable { port, .. } => is_up(l, *port),
@@ -41,7 +41,7 @@ pub fn host_row<L: Lookup>(l: &L, key: &HostKey) -> Option<HostRow>
 }
 
 fn host_act<L: Lookup>(l: &L, key: &HostKey) -> HostAct
-    ensures { result ≡ host_act (L.plain l.now) (neighbor_at (L.plain l.now) (neighbor_of key.now)) }
+    ensures { result ≡ host_act (L.plain l.now) (neighbor_at (L.plain l.now) (neighbor_of_host key.now)) }
 {
     match l.neighbor(key.intf, key.ip) {
         Some(neighbor) => act_by(l, &neighbor),

@@ -37,7 +37,7 @@ pub fn read_act(alloc: Global, cursor: &mut Cursor) -> Result<Act, ReadFault>
     if cursor.take(b"client") {
         return read_client(alloc, cursor);
     }
-    Err(cursor.bad())
+    Err(cursor.bad().into())
 }
 
 /// What follows `vlan`.
@@ -51,7 +51,7 @@ fn vlan(alloc: Global, cursor: &mut Cursor) -> Result<Act, ReadFault>
     if cursor.take(b"del") {
         return vlan_del(cursor);
     }
-    Err(cursor.bad())
+    Err(cursor.bad().into())
 }
 
 /// What follows `port`.
@@ -74,7 +74,7 @@ fn port(cursor: &mut Cursor) -> Result<Act, ReadFault>
     if cursor.take(b"down") {
         return port_down(cursor);
     }
-    Err(cursor.bad())
+    Err(cursor.bad().into())
 }
 
 /// What follows `intf`.
@@ -88,7 +88,7 @@ fn intf(cursor: &mut Cursor) -> Result<Act, ReadFault>
     if cursor.take(b"del") {
         return intf_del(cursor);
     }
-    Err(cursor.bad())
+    Err(cursor.bad().into())
 }
 
 /// What follows `addr`.
@@ -102,7 +102,7 @@ fn addr(cursor: &mut Cursor) -> Result<Act, ReadFault>
     if cursor.take(b"del") {
         return addr_del(cursor);
     }
-    Err(cursor.bad())
+    Err(cursor.bad().into())
 }
 
 /// What follows `neighbor`.
@@ -119,7 +119,7 @@ fn neighbor(cursor: &mut Cursor) -> Result<Act, ReadFault>
     if cursor.take(b"del") {
         return neighbor_del(cursor);
     }
-    Err(cursor.bad())
+    Err(cursor.bad().into())
 }
 
 /// What follows `mac`.
@@ -133,7 +133,7 @@ fn mac(cursor: &mut Cursor) -> Result<Act, ReadFault>
     if cursor.take(b"del") {
         return mac_del(cursor);
     }
-    Err(cursor.bad())
+    Err(cursor.bad().into())
 }
 
 #[tactic(auto, unfolding(crate::specs::Reading::vlan_add_at, script_words::specs::Reading::one))]

@@ -94,7 +94,7 @@ fn read_start(alloc: Global, cursor: &mut Cursor) -> Result<Start, ReadFault>
     ensures { Gives (λ start. start) result (start_at cursor.old) }
 {
     if !cursor.take(b"start") {
-        return Err(cursor.bad());
+        return Err(cursor.bad().into());
     }
     if cursor.take(b"cold") {
         let caps = read_caps(cursor)?;
@@ -105,7 +105,7 @@ fn read_start(alloc: Global, cursor: &mut Cursor) -> Result<Start, ReadFault>
         cursor.end()?;
         return Ok(Start::Warm(name));
     }
-    Err(cursor.bad())
+    Err(cursor.bad().into())
 }
 
 /// The capacities, to the end of the line.
@@ -132,7 +132,7 @@ fn limit(cursor: &mut Cursor) -> Result<Entry, ReadFault>
     ensures { Gives (λ entry. entry) result (turned Limits limit_at cursor.old) }
 {
     if !cursor.take(b"limit") {
-        return Err(cursor.bad());
+        return Err(cursor.bad().into());
     }
     let limit = cursor.number(1, MOST_UPDATES)?;
     cursor.end()?;
@@ -145,7 +145,7 @@ fn callers(cursor: &mut Cursor) -> Result<Entry, ReadFault>
     ensures { Gives (λ entry. entry) result (turned Calls callers_at cursor.old) }
 {
     if !cursor.take(b"callers") {
-        return Err(cursor.bad());
+        return Err(cursor.bad().into());
     }
     let callers = cursor.number(1, MOST_CALLERS)?;
     cursor.end()?;
@@ -173,9 +173,9 @@ fn base(alloc: Global, cold: bool, number: u64, cursor: &mut Cursor) -> Result<E
             let act = read_act(alloc, cursor)?;
             return Ok(Entry::Bases(number, act));
         }
-        return Err(cursor.bad());
+        return Err(cursor.bad().into());
     }
-    Err(cursor.bad())
+    Err(cursor.bad().into())
 }
 
 /// The first line of a phase, or a caller's line.

@@ -89,7 +89,7 @@ fn read_query(cursor: &mut Cursor) -> Result<Query, ReadFault>
         cursor.end()?;
         return Ok(Query::Route(vrf, ip));
     }
-    Err(cursor.bad())
+    Err(cursor.bad().into())
 }
 
 /// The job, where the line ends here.

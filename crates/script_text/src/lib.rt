@@ -18,7 +18,7 @@ mod whole;
 pub use fault::ScriptFault;
 pub use laws::printed_is_read_back;
 pub use page::Page;
-pub use print::print_update;
+pub use print::{print_update, write_update};
 pub use script::{BaseList, Job, Line, LineList, PhaseList, Script, Start};
 pub use whole::read_script;
 

@@ -30,7 +30,8 @@ pub fn print_update(alloc: Global, out: &mut Text, update: &Update) -> Result<()
     appended
 }
 
-fn write_update(page: &mut Page, update: &Update) -> Result<(), NoMemory>
+/// Writes the update in the same words onto a page.
+pub fn write_update(page: &mut Page, update: &Update) -> Result<(), NoMemory>
     ensures { OnOk result (page.new ≡ page.old ++ update_text update.now) }
 {
     if update.alone {

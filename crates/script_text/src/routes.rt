@@ -22,7 +22,7 @@ pub fn read_route(alloc: Global, cursor: &mut Cursor) -> Result<Act, ReadFault>
     if cursor.take(b"del") {
         return route_del(cursor);
     }
-    Err(cursor.bad())
+    Err(cursor.bad().into())
 }
 
 #[tactic(auto, unfolding(crate::specs::Reading::route_set_at, script_words::specs::Reading::one, script_words::specs::Reading::turned))]
@@ -64,7 +64,7 @@ pub fn read_client(alloc: Global, cursor: &mut Cursor) -> Result<Act, ReadFault>
     if cursor.take(b"sync") {
         return client_sync(alloc, cursor);
     }
-    Err(cursor.bad())
+    Err(cursor.bad().into())
 }
 
 #[tactic(auto, unfolding(crate::specs::Reading::client_sync_at, script_words::specs::Reading::one, script_words::specs::Reading::turned))]
@@ -98,7 +98,7 @@ fn read_via(alloc: Global, cursor: &mut Cursor) -> Result<Via, ReadFault>
         cursor.end()?;
         return Ok(Via::Discard);
     }
-    Err(cursor.bad())
+    Err(cursor.bad().into())
 }
 
 /// Next hops, to the end of the line.
@@ -108,7 +108,7 @@ fn read_hops(alloc: Global, cursor: &mut Cursor) -> Result<HopList, ReadFault>
     let mut hops = HopList::new(alloc);
     while let Some((word, behind)) = cursor.split() {
         let Ok(Hop { ip, intf }) = read_hop(word) else {
-            return Err(cursor.bad());
+            return Err(cursor.bad().into());
         };
         hops.push(Hop { ip, intf })?;
         *cursor = behind;
@@ -208,7 +208,7 @@ fn read_items(alloc: Global, cursor: &mut Cursor) -> Result<RouteList, ReadFault
     let mut place = Place::First;
     while let Some((word, behind)) = cursor.split() {
         let Some(next) = step(alloc, place, &mut routes, word)? else {
-            return Err(cursor.bad());
+            return Err(cursor.bad().into());
         };
         place = next;
         *cursor = behind;

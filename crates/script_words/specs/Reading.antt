@@ -3,6 +3,7 @@ use Rattle.std.specs.Prelude.{◌≡◌, ◌-◌, ◌+◌, ◌*◌, ◌&&◌, na
 use Rattle.std.specs.Char.{is_ascii_digit}
 use Rattle.std.specs.Str.{all_ascii_digits, bytes_eq}
 use Rattle.net_types.specs.Names.{is_vlan_name, is_name}
+use Rattle.script_words.specs.declared.fault.BadWord.{BadWord}
 use Rattle.script_words.specs.declared.fault.ReadFault.{ReadFault}
 use Rattle.script_words.specs.declared.fault.ReadFault.TheVariants.{Memory, Left}
 
@@ -21,6 +22,16 @@ Fails (Left n) read = read ≡ Err n
 abbrev pub Gives : {X Y : Type 0} → (X → Y) → Result X ReadFault → Result Y ℕ → Type 0
 Gives view (Ok x) read = read ≡ Ok (view x)
 Gives view (Err e) read = Fails e read
+
+-- what a call that takes no memory found is what reading gives
+abbrev pub Finds : {X : Type 0} → Result X BadWord → Result X ℕ → Type 0
+Finds (Ok x) read = read ≡ Ok x
+Finds (Err e) read = read ≡ Err e.left
+
+-- what such a call took and the words that it left are what reading gives
+abbrev pub Takes : {X : Type 0} → Result X BadWord → List (List ℕ) → Result (X × List (List ℕ)) ℕ → Type 0
+Takes (Ok x) rest read = read ≡ Ok (x, rest)
+Takes (Err e) rest read = read ≡ Err e.left
 
 -- what a call took and the words that it left are what reading gives, unless memory ran out
 abbrev pub Took : {X : Type 0} → Result X ReadFault → List (List ℕ) → Result (X × List (List ℕ)) ℕ → Type 0

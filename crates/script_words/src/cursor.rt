@@ -1,12 +1,12 @@
 // A cursor over the words of a line.
-ghost use Rattle.std.specs.Prelude.{◌≡◌, ◌<◌, ◌^◌, ◌∷◌, [], Some, length, IfOk, MatchOption, if◌then◌else◌};
+ghost use Rattle.std.specs.Prelude.{◌≡◌, ◌<◌, ◌^◌, ◌∷◌, [], Some, length, IfOk, OnErr, MatchOption, if◌then◌else◌};
 ghost use Rattle.net_types.specs.Names.{is_vlan_name, is_name};
 ghost use Rattle.ip_text.specs.Values.{ip_of, prefix_of, addr_of, mac_of, hop_of};
 ghost use Rattle.script_words.specs.Words.{words};
 ghost use Rattle.script_words.specs.Grammar.{IsBetween, client_of};
-ghost use Rattle.script_words.specs.Reading.{Gives, Took, word_at, number_of, vlan_name_of, name_of, begins_with, behind_word, ended, bad};
+ghost use Rattle.script_words.specs.Reading.{Finds, Takes, Took, word_at, number_of, vlan_name_of, name_of, begins_with, behind_word, ended, bad};
 
-use crate::fault::ReadFault;
+use crate::fault::{BadWord, ReadFault};
 use crate::number::number_of;
 use crate::words::{count, is, next_word};
 use ip_text::{read_addr, read_hop, read_ip, read_mac, read_prefix};
@@ -16,8 +16,8 @@ use net_types::{
 use std::alloc::Global;
 use std::marker::Model;
 
-/// The words of a line that are still to be read. A reader that fails says how many words are left
-/// at the word that it could not read, and takes nothing.
+/// The words of a line that are still to be read. A call that fails takes none of them, and says how
+/// many are left at the word that it could not read.
 #[derive(Drop)]
 pub struct Cursor<'a> {
     rest: &'a [u8],
@@ -40,10 +40,12 @@ impl<'a> Cursor<'a> {
     }
 
     /// The fault of a word that may not stand here, or of a line that ends too early.
-    pub fn bad(&self) -> ReadFault
-        ensures { result ≡ ReadFault.Left (length self.now) }
+    pub fn bad(&self) -> BadWord
+        ensures { result.left ≡ length self.now }
     {
-        ReadFault::Left(count(self.rest))
+        BadWord {
+            left: count(self.rest),
+        }
     }
 
     /// Takes the next word where it is the key, and nothing else.
@@ -61,8 +63,8 @@ impl<'a> Cursor<'a> {
     }
 
     /// The end of the line: no word is left.
-    pub fn end(&self) -> Result<(), ReadFault>
-        ensures { Gives (λ u. u) result (ended (tt {0}) self.now) }
+    pub fn end(&self) -> Result<(), BadWord>
+        ensures { Finds result (ended (tt {0}) self.now) }
     {
         match next_word(self.rest) {
             None => Ok(()),
@@ -79,13 +81,14 @@ impl<'a> Cursor<'a> {
     }
 
     /// A number in a range.
-    pub fn number(&mut self, low: u64, high: u64) -> Result<u64, ReadFault>
+    pub fn number(&mut self, low: u64, high: u64) -> Result<u64, BadWord>
         requires { high < 2 ^ 59 }
-        ensures word { Took result self.new (word_at (number_of low high) self.old) }
+        ensures word { Takes result self.new (word_at (number_of low high) self.old) }
         ensures range { IfOk result (λ n. IsBetween low high n) }
+        ensures kept { OnErr result (self.new ≡ self.old) }
     {
         let Some((word, rest)) = next_word(self.rest) else {
-            return Err(ReadFault::Left(0));
+            return Err(BadWord { left: 0 });
         };
         match number_of(low, high, word) {
             Some(number) => {
@@ -97,11 +100,12 @@ impl<'a> Cursor<'a> {
     }
 
     /// The number of a VLAN.
-    pub fn vlan(&mut self) -> Result<Vlan, ReadFault>
-        ensures { Took result self.new (word_at (number_of 1 4094) self.old) }
+    pub fn vlan(&mut self) -> Result<Vlan, BadWord>
+        ensures word { Takes result self.new (word_at (number_of 1 4094) self.old) }
+        ensures kept { OnErr result (self.new ≡ self.old) }
     {
         let Some((word, rest)) = next_word(self.rest) else {
-            return Err(ReadFault::Left(0));
+            return Err(BadWord { left: 0 });
         };
         let Some(found) = vlan_of(word) else {
             return Err(self.bad());
@@ -111,11 +115,12 @@ impl<'a> Cursor<'a> {
     }
 
     /// The number of a port.
-    pub fn port(&mut self) -> Result<Port, ReadFault>
-        ensures { Took result self.new (word_at (number_of 1 1024) self.old) }
+    pub fn port(&mut self) -> Result<Port, BadWord>
+        ensures word { Takes result self.new (word_at (number_of 1 1024) self.old) }
+        ensures kept { OnErr result (self.new ≡ self.old) }
     {
         let Some((word, rest)) = next_word(self.rest) else {
-            return Err(ReadFault::Left(0));
+            return Err(BadWord { left: 0 });
         };
         let Some(found) = port_of(word) else {
             return Err(self.bad());
@@ -125,11 +130,12 @@ impl<'a> Cursor<'a> {
     }
 
     /// The number of an interface.
-    pub fn intf(&mut self) -> Result<Intf, ReadFault>
-        ensures { Took result self.new (word_at (number_of 1 4294967295) self.old) }
+    pub fn intf(&mut self) -> Result<Intf, BadWord>
+        ensures word { Takes result self.new (word_at (number_of 1 4294967295) self.old) }
+        ensures kept { OnErr result (self.new ≡ self.old) }
     {
         let Some((word, rest)) = next_word(self.rest) else {
-            return Err(ReadFault::Left(0));
+            return Err(BadWord { left: 0 });
         };
         let Some(found) = intf_of(word) else {
             return Err(self.bad());
@@ -139,11 +145,12 @@ impl<'a> Cursor<'a> {
     }
 
     /// The number of a VRF.
-    pub fn vrf(&mut self) -> Result<Vrf, ReadFault>
-        ensures { Took result self.new (word_at (number_of 0 65535) self.old) }
+    pub fn vrf(&mut self) -> Result<Vrf, BadWord>
+        ensures word { Takes result self.new (word_at (number_of 0 65535) self.old) }
+        ensures kept { OnErr result (self.new ≡ self.old) }
     {
         let Some((word, rest)) = next_word(self.rest) else {
-            return Err(ReadFault::Left(0));
+            return Err(BadWord { left: 0 });
         };
         let Some(found) = vrf_of(word) else {
             return Err(self.bad());
@@ -154,7 +161,8 @@ impl<'a> Cursor<'a> {
 
     /// A VLAN's name.
     pub fn vlan_name(&mut self, alloc: Global) -> Result<VlanName, ReadFault>
-        ensures { Took result self.new (word_at vlan_name_of self.old) }
+        ensures word { Took result self.new (word_at vlan_name_of self.old) }
+        ensures kept { OnErr result (self.new ≡ self.old) }
     {
         let Some((word, rest)) = next_word(self.rest) else {
             return Err(ReadFault::Left(0));
@@ -164,13 +172,14 @@ impl<'a> Cursor<'a> {
                 self.rest = rest;
                 Ok(found)
             }
-            None => Err(self.bad()),
+            None => Err(self.bad().into()),
         }
     }
 
     /// A name in a store.
     pub fn name(&mut self, alloc: Global) -> Result<Name, ReadFault>
-        ensures { Took result self.new (word_at name_of self.old) }
+        ensures word { Took result self.new (word_at name_of self.old) }
+        ensures kept { OnErr result (self.new ≡ self.old) }
     {
         let Some((word, rest)) = next_word(self.rest) else {
             return Err(ReadFault::Left(0));
@@ -180,16 +189,17 @@ impl<'a> Cursor<'a> {
                 self.rest = rest;
                 Ok(found)
             }
-            None => Err(self.bad()),
+            None => Err(self.bad().into()),
         }
     }
 
     /// A client, by its name.
-    pub fn client(&mut self) -> Result<Client, ReadFault>
-        ensures { Took result self.new (word_at client_of self.old) }
+    pub fn client(&mut self) -> Result<Client, BadWord>
+        ensures word { Takes result self.new (word_at client_of self.old) }
+        ensures kept { OnErr result (self.new ≡ self.old) }
     {
         let Some((word, rest)) = next_word(self.rest) else {
-            return Err(ReadFault::Left(0));
+            return Err(BadWord { left: 0 });
         };
         let Some(found) = client_of(word) else {
             return Err(self.bad());
@@ -199,11 +209,12 @@ impl<'a> Cursor<'a> {
     }
 
     /// An IP address.
-    pub fn ip(&mut self) -> Result<Ip, ReadFault>
-        ensures { Took result self.new (word_at ip_of self.old) }
+    pub fn ip(&mut self) -> Result<Ip, BadWord>
+        ensures word { Takes result self.new (word_at ip_of self.old) }
+        ensures kept { OnErr result (self.new ≡ self.old) }
     {
         let Some((word, rest)) = next_word(self.rest) else {
-            return Err(ReadFault::Left(0));
+            return Err(BadWord { left: 0 });
         };
         match read_ip(word) {
             Ok(found) => {
@@ -215,11 +226,12 @@ impl<'a> Cursor<'a> {
     }
 
     /// The address of an interface.
-    pub fn addr(&mut self) -> Result<Addr, ReadFault>
-        ensures { Took result self.new (word_at addr_of self.old) }
+    pub fn addr(&mut self) -> Result<Addr, BadWord>
+        ensures word { Takes result self.new (word_at addr_of self.old) }
+        ensures kept { OnErr result (self.new ≡ self.old) }
     {
         let Some((word, rest)) = next_word(self.rest) else {
-            return Err(ReadFault::Left(0));
+            return Err(BadWord { left: 0 });
         };
         match read_addr(word) {
             Ok(found) => {
@@ -231,11 +243,12 @@ impl<'a> Cursor<'a> {
     }
 
     /// A prefix.
-    pub fn prefix(&mut self) -> Result<Prefix, ReadFault>
-        ensures { Took result self.new (word_at prefix_of self.old) }
+    pub fn prefix(&mut self) -> Result<Prefix, BadWord>
+        ensures word { Takes result self.new (word_at prefix_of self.old) }
+        ensures kept { OnErr result (self.new ≡ self.old) }
     {
         let Some((word, rest)) = next_word(self.rest) else {
-            return Err(ReadFault::Left(0));
+            return Err(BadWord { left: 0 });
         };
         match read_prefix(word) {
             Ok(found) => {
@@ -247,11 +260,12 @@ impl<'a> Cursor<'a> {
     }
 
     /// A MAC address.
-    pub fn mac(&mut self) -> Result<Mac, ReadFault>
-        ensures { Took result self.new (word_at mac_of self.old) }
+    pub fn mac(&mut self) -> Result<Mac, BadWord>
+        ensures word { Takes result self.new (word_at mac_of self.old) }
+        ensures kept { OnErr result (self.new ≡ self.old) }
     {
         let Some((word, rest)) = next_word(self.rest) else {
-            return Err(ReadFault::Left(0));
+            return Err(BadWord { left: 0 });
         };
         match read_mac(word) {
             Ok(found) => {
@@ -263,11 +277,12 @@ impl<'a> Cursor<'a> {
     }
 
     /// A next hop.
-    pub fn hop(&mut self) -> Result<Hop, ReadFault>
-        ensures { Took result self.new (word_at hop_of self.old) }
+    pub fn hop(&mut self) -> Result<Hop, BadWord>
+        ensures word { Takes result self.new (word_at hop_of self.old) }
+        ensures kept { OnErr result (self.new ≡ self.old) }
     {
         let Some((word, rest)) = next_word(self.rest) else {
-            return Err(ReadFault::Left(0));
+            return Err(BadWord { left: 0 });
         };
         match read_hop(word) {
             Ok(found) => {

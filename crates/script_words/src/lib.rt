@@ -12,7 +12,7 @@ mod number;
 mod words;
 
 pub use cursor::Cursor;
-pub use fault::ReadFault;
+pub use fault::{BadWord, ReadFault};
 pub use lines::{all_allowed, is_skipped, next_line};
 pub use words::{count, is};
 

@@ -1,27 +1,35 @@
 //! Words, lines and their faults.
-use crate::{Cursor, ReadFault, all_allowed, count, is_skipped, next_line};
+use crate::{BadWord, Cursor, ReadFault, all_allowed, count, is_skipped, next_line};
 use net_types::Client;
 use std::test::Fail;
 
-#[test]
-fn lines_end_at_line_feeds(rt: HostRuntime) -> Result<(), Fail> {
-    let (first, rest) = next_line(b"callers 2\n\nphase").ok_or("no line")?;
-    assert_eq!(rt; first, b"callers 2".as_slice());
-    let (second, rest) = next_line(rest).ok_or("no second line")?;
-    assert!(rt; second.is_empty());
-    let (third, rest) = next_line(rest).ok_or("no third line")?;
-    assert_eq!(rt; third, b"phase".as_slice());
-    assert!(rt; next_line(rest).is_none());
-    Ok(())
-}
+/// A text that begins with a line, the line, and what stands behind it.
+const LINES: [(&[u8], &[u8], &[u8]); 3] = [
+    (b"callers 2\n\nphase", b"callers 2", b"\nphase"),
+    (b"\nphase", b"", b"phase"),
+    (b"phase", b"phase", b""),
+];
+
+/// A line, whether it is skipped, and whether its bytes are allowed.
+const KINDS: [(&[u8], bool, bool); 4] = [
+    (b"  ", true, true),
+    (b"  #5 via ~", true, true),
+    (b"0 #", false, true),
+    (b"#\t", true, false),
+];
 
 #[test]
-fn comments_and_blank_lines_are_skipped(rt: HostRuntime) -> Result<(), Fail> {
-    assert!(rt; is_skipped(b"  "));
-    assert!(rt; is_skipped(b"  #5 via"));
-    assert!(rt; !is_skipped(b"0 #"));
-    assert!(rt; all_allowed(b"# ~"));
-    assert!(rt; !all_allowed(b"#\t"));
+fn lines_end_at_line_feeds(rt: HostRuntime) -> Result<(), Fail> {
+    for (text, first, behind) in LINES {
+        let (line, rest) = next_line(text).ok_or("no line")?;
+        assert_eq!(rt; line, first);
+        assert_eq!(rt; rest, behind);
+    }
+    assert!(rt; next_line(b"").is_none());
+    for (line, skipped, allowed) in KINDS {
+        assert_eq!(rt; is_skipped(line), skipped);
+        assert_eq!(rt; all_allowed(line), allowed);
+    }
     Ok(())
 }
 
@@ -32,23 +40,30 @@ fn fields_are_taken_in_turn(rt: HostRuntime) -> Result<(), Fail> {
     assert!(rt; cursor.take(b"route"));
     assert!(rt; !cursor.take(b"del"));
     assert!(rt; cursor.take(b"set"));
+    assert_eq!(rt; cursor.number(0, 6), Err(BadWord { left: 2 }));
     assert_eq!(rt; cursor.number(0, 65_535), Ok(7));
+    assert_eq!(rt; cursor.end(), Err(BadWord { left: 1 }));
     assert_eq!(rt; cursor.client(), Ok(Client::Ebgp));
     assert_eq!(rt; cursor.end(), Ok(()));
-    assert_eq!(rt; cursor.client(), Err(ReadFault::Left(0)));
+    assert_eq!(rt; cursor.client(), Err(BadWord { left: 0 }));
+    assert_eq!(rt;
+        Cursor::new(b"07 x").number(0, 65_535),
+        Err(BadWord { left: 2 })
+    );
     Ok(())
 }
 
 #[test]
-fn faults_count_the_words_left(rt: HostRuntime) -> Result<(), Fail> {
-    assert_eq!(rt;
-        Cursor::new(b"07 x").number(0, 65_535),
-        Err(ReadFault::Left(2))
-    );
-    assert_eq!(rt;
-        Cursor::new(b"4095 x").number(1, 4_094),
-        Err(ReadFault::Left(2))
-    );
-    assert_eq!(rt; Cursor::new(b"x").end(), Err(ReadFault::Left(1)));
+fn faults_are_printed(rt: HostRuntime) -> Result<(), Fail> {
+    let alloc = rt.alloc();
+    let bad = BadWord { left: 3 };
+    let text = "a bad word with 3 words left";
+    assert_eq!(rt; format!(in alloc; "{bad}")?.as_str(), text);
+    for (fault, text) in [
+        (ReadFault::Left(3), text),
+        (ReadFault::Memory, "no memory is left"),
+    ] {
+        assert_eq!(rt; format!(in alloc; "{fault}")?.as_str(), text);
+    }
     Ok(())
 }

@@ -1,8 +1,8 @@
 -- A key among the parts of a table: what stands before its part is below it, and what stands behind isn't.
-use Rattle.std.proofs.Common.{◌≡◌, ◌≤◌, ◌<◌, ◌+◌, ℕ, zero, suc, List, [], ◌∷◌, ◌++◌, None, drop, take, get_or, length, map, set, append_assoc, refl, sym, ap, ◌∙◌, subst, arith}
+use Rattle.std.proofs.Common.{◌≡◌, ◌≤◌, ◌<◌, ◌+◌, ◌-◌, ℕ, zero, suc, List, [], ◌∷◌, ◌++◌, None, drop, take, drop-cons, add-one, get_or, length, map, set, append_assoc, refl, sym, ap, ◌∙◌, subst, arith}
 use Rattle.std.proofs.lemmas.List.{append-nil, drop_more, drop_all, drop-map, get_or-map, length-map, map-append, map-set, nil_from_length, take-append-drop, take-map}
 use Rattle.std.proofs.lemmas.List.Elements.{All-head}
-use Rattle.std.specs.List.{insert, remove}
+use Rattle.std.specs.List.{insert, remove, slice_get}
 use Rattle.std.specs.Cmp.{IsTotalOrder}
 use Rattle.std.specs.Ordering.{ordering_reverse}
 use Rattle.std.specs.declared.cmp.Ordering.{Ordering}
@@ -12,6 +12,17 @@ use Rattle.keyed.specs.Keyed.{at, put, without, IsBelow, Ascends}
 use Rattle.keyed.specs.KeyedLaws.{by_order}
 use Rattle.sorted_table.specs.Chunks.{AreBelow, AreEmpty, AreFilled, joined, parts}
 use Rattle.sorted_table.specs.declared.chunk.Chunk.{Chunk}
+
+-- the item at a place of two lists, one behind the other
+nth-front : {A : Type 0} (p rest : List A) (n : ℕ) → n < length p → slice_get (p ++ rest) n ≡ slice_get p n
+nth-front [] rest n lt = absurd (omega (arith, lt))
+nth-front (x ∷ xs) rest zero lt = refl
+nth-front (x ∷ xs) rest (suc n) lt = nth-front xs rest n (omega (arith, lt))
+
+nth-behind : {A : Type 0} (p rest : List A) (n : ℕ) → length p ≤ n → slice_get (p ++ rest) n ≡ slice_get rest (n - length p)
+nth-behind [] rest n le = let same : n ≡ n - 0 = omega arith in ap (slice_get rest) same
+nth-behind (x ∷ xs) rest zero le = absurd (omega (arith, le))
+nth-behind (x ∷ xs) rest (suc n) le = let same : n - length xs ≡ suc n - length (x ∷ xs) = omega arith in nth-behind xs rest n (omega (arith, le)) ∙ ap (slice_get rest) same
 
 -- each part but the first has rows
 has_rows_next : {A : Type 0} (ps : List (List A)) (n : ℕ) (d : List A) → AreFilled ps → suc n < length ps → 0 < length (get_or ps (suc n) d)
@@ -190,3 +201,16 @@ module _ {K : Type 0} (cmp : K → K → Ordering) (total : IsTotalOrder cmp) wh
 
     pub next_put : (a : List (K × V)) (e : K × V) (b : List (K × V)) → Ascends cmp (a ++ e ∷ b) → put cmp e.0 e.1 a ≡ a ++ e ∷ []
     next_put a e b asc = ap (λ l. put cmp e.0 e.1 l) (sym (append-nil a)) ∙ put_behind e.0 e.1 a [] (all_below a e b asc)
+
+-- the parts from a chunk on
+parts_from : {K V : Type 0} (chunks : List (Chunk K V)) (n : ℕ) (c : Chunk K V) → n < length chunks → c ≡ get_or chunks n c → joined (drop n (parts chunks)) ≡ c.rows.items ++ joined (drop (n + 1) (parts chunks))
+parts_from chunks n c lt is =
+    let there : n < length (parts chunks) = omega (arith, lt, count_parts chunks) in
+    ap joined (drop-cons (parts chunks) n [] there) ∙ ap (λ l. l ++ joined (drop (suc n) (parts chunks))) (sym (rows_at chunks n c lt is)) ∙ rw add-one refl
+
+-- the row at a place of the chunks from one on: it is in this chunk, or behind it
+pub nth_here : {K V : Type 0} (chunks : List (Chunk K V)) (n left : ℕ) (c : Chunk K V) → n < length chunks → c ≡ get_or chunks n c → left < length c.rows.items → slice_get (joined (drop n (parts chunks))) left ≡ slice_get c.rows.items left
+nth_here chunks n left c lt is within = ap (λ l. slice_get l left) (parts_from chunks n c lt is) ∙ nth-front c.rows.items (joined (drop (n + 1) (parts chunks))) left within
+
+pub nth_later : {K V : Type 0} (chunks : List (Chunk K V)) (n left : ℕ) (c : Chunk K V) → n < length chunks → c ≡ get_or chunks n c → length c.rows.items ≤ left → slice_get (joined (drop n (parts chunks))) left ≡ slice_get (joined (drop (n + 1) (parts chunks))) (left - length c.rows.items)
+nth_later chunks n left c lt is past = ap (λ l. slice_get l left) (parts_from chunks n c lt is) ∙ nth-behind c.rows.items (joined (drop (n + 1) (parts chunks))) left past

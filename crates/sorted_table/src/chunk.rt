@@ -1,5 +1,5 @@
 // A few rows by ascending key.
-ghost use Rattle.std.specs.Prelude.{◌≡◌, ◌≤◌, ◌<◌, ◌+◌, ◌*◌, ◌==◌, ◌++◌, false, IfOk, ◌∷◌, IsSome, IsTrue, Some, [], length, option_copied, reverse, vec_capacity, vec_len};
+ghost use Rattle.std.specs.Prelude.{◌≡◌, ◌≤◌, ◌<◌, ◌+◌, ◌*◌, ◌==◌, ◌++◌, false, IfOk, ◌∷◌, IsSome, IsTrue, Some, [], length, option_copied, reverse, slice_get, vec_capacity, vec_len};
 ghost use Rattle.keyed.specs.Keyed.{Ascends, IsBelow, at, put, without};
 ghost use Rattle.sorted_table.specs.Rows.{first_of, room};
 
@@ -46,6 +46,13 @@ impl<K, V> Chunk<K, V> {
 }
 
 impl<K, V> Chunk<K, V> {
+    /// The row at that place, counted from 0: none exactly past the end.
+    pub(crate) fn at(&self, n: usize) -> Option<&(K, V)>
+        ensures { option_copied result ≡ slice_get self.now.rows.items n }
+    {
+        self.rows.get(n)
+    }
+
     pub(crate) fn first(&self) -> Option<&(K, V)>
         ensures { option_copied result ≡ first_of self.now.rows.items }
     {

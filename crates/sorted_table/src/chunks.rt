@@ -1,5 +1,5 @@
 // The chunks of a table, by ascending rows.
-ghost use Rattle.std.specs.Prelude.{◌<◌, ◌+◌, IsTrue, drop, length, take};
+ghost use Rattle.std.specs.Prelude.{◌≡◌, ◌<◌, ◌+◌, IsTrue, drop, length, option_copied, slice_get, take};
 ghost use Rattle.keyed.specs.Keyed.{IsBelow};
 ghost use Rattle.sorted_table.specs.Chunks.{AreBelow, IsParted, joined, parts};
 
@@ -24,6 +24,20 @@ pub(crate) fn place_of<K: Ord, V>(chunks: &[Chunk<K, V>], key: &K) -> usize
         }
     }
     low
+}
+
+/// The row at that place in all chunks, counted from 0: none exactly past the end.
+pub(crate) fn nth_of<K, V>(chunks: &[Chunk<K, V>], n: usize) -> Option<&(K, V)>
+    ensures { option_copied result ≡ slice_get (joined (parts chunks.now)) n }
+{
+    let mut left = n;
+    for chunk in chunks {
+        if left < chunk.len() {
+            return chunk.at(left);
+        }
+        left -= chunk.len();
+    }
+    None
 }
 
 /// Whether the key belongs in that chunk or behind it.

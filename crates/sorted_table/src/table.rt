@@ -1,11 +1,11 @@
 // The table.
-ghost use Rattle.std.specs.Prelude.{◌≡◌, ◌≤◌, ◌<◌, ◌==◌, ◌++◌, false, IfOk, IfSome, IsSome, None, Ok, OnOk, Some, [], length, option_copied, vec_capacity};
+ghost use Rattle.std.specs.Prelude.{◌≡◌, ◌≤◌, ◌<◌, ◌==◌, ◌++◌, false, IfOk, IfSome, IsSome, None, Ok, OnOk, Some, [], length, option_copied, slice_get, vec_capacity};
 ghost use Rattle.keyed.specs.Keyed.{Ascends, at, put, without};
 ghost use Rattle.sorted_table.specs.Rows.{IsSorted, first_of};
 ghost use Rattle.sorted_table.specs.Chunks.{AreEmpty, joined, parts};
 
 use crate::chunk::{Chunk, HALF};
-use crate::chunks::{place_near, place_of};
+use crate::chunks::{nth_of, place_near, place_of};
 use crate::edits::{add_in, cut_from, set_in};
 use std::alloc::{AllocError as NoMemory, Global};
 use std::marker::Model;
@@ -71,6 +71,14 @@ impl<K: Ord, V> SortedTable<K, V> {
         ensures { option_copied result ≡ first_of self.now.rows }
     {
         self.chunks[0].first()
+    }
+
+    /// The row at that place by ascending key, counted from 0: none exactly past the end. It passes
+    /// over the chunks before it.
+    pub fn at(&self, n: usize) -> Option<&(K, V)>
+        ensures { option_copied result ≡ slice_get self.now.rows n }
+    {
+        nth_of(self.chunks.as_slice(), n)
     }
 
     /// The value under a key.

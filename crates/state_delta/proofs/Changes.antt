@@ -1,5 +1,5 @@
 -- What differs between two trees, by their leaves and by what they share.
-use Rattle.std.proofs.Common.{◌≡◌, ◌≢◌, ℕ, ◌+◌, ◌-◌, ◌<◌, ◌≤◌, Bool, true, false, cond, eqb, List, [], ◌∷◌, Option, None, Some, refl, sym, ap, ◌∙◌, subst, arith, inl, inr}
+use Rattle.std.proofs.Common.{◌≡◌, ◌≢◌, ℕ, ◌+◌, ◌<◌, ◌≤◌, Bool, true, false, cond, eqb, List, [], ◌∷◌, Option, None, Some, refl, sym, ap, ◌∙◌, subst, arith, inl, inr}
 use Rattle.std.specs.Borrow.{Bor}
 use Rattle.std.specs.List.{All, Contains, IsAmong}
 use Rattle.std.specs.Option.{option_map}
@@ -15,7 +15,8 @@ use Rattle.node_key.specs.Place.{Covers}
 use Rattle.node_map.specs.Follows.{FollowsAt, Follows}
 use Rattle.node_map.specs.Map.{MapView, IsRootOf}
 use Rattle.node_map.specs.Sound.{AreSingle, HasLeaf, IsSound}
-use Rattle.node_map.specs.Steps.{first_of, later}
+use Rattle.keyed.specs.Ranges.{head_of}
+use Rattle.node_map.specs.Steps.{later}
 use Rattle.node_map.specs.TreeNode.{Entries, TreeNode, TreeView}
 use Rattle.node_map.proofs.Order.{at_key, cmp-same}
 use Rattle.state_delta.specs.Change.{ChangeView, between, change_of}
@@ -26,19 +27,19 @@ use Rattle.state_delta.proofs.Next.{next_entry, next_removed, next_added, past_a
 
 -- what stands in one map alone, as the code has it
 module _ {T : Type 0} (last : Option ℕ) (es : Entries T) where
-  found_next : (r : Option (ℕ × NodeView T)) → r ≡ first_of (later last es) → IsNext last (λ k. at nat_cmp k es) r
+  found_next : (r : Option (ℕ × NodeView T)) → r ≡ head_of (later last es) → IsNext last (λ k. at nat_cmp k es) r
   found_next r r_is = subst (IsNext last (λ k. at nat_cmp k es)) (sym r_is) (next_entry last es)
 
-  pub none_added : None ≡ first_of (later last es) → (key : ℕ) → IsPast last key → change_of None (at nat_cmp key es) ≡ None
+  pub none_added : None ≡ head_of (later last es) → (key : ℕ) → IsPast last key → change_of None (at nat_cmp key es) ≡ None
   none_added r_is = next_added last es None (found_next None r_is)
 
-  pub none_removed : None ≡ first_of (later last es) → (key : ℕ) → IsPast last key → change_of (at nat_cmp key es) None ≡ None
+  pub none_removed : None ≡ head_of (later last es) → (key : ℕ) → IsPast last key → change_of (at nat_cmp key es) None ≡ None
   none_removed r_is = next_removed last es None (found_next None r_is)
 
-  pub some_added : (key : ℕ) (node : NodeView T) (value : T) → value ≡ node.value → Some (key, node) ≡ first_of (later last es) → IsNext last (λ k. change_of None (at nat_cmp k es)) (Some (key, record { old = None; new = Some value; kind = Added }))
+  pub some_added : (key : ℕ) (node : NodeView T) (value : T) → value ≡ node.value → Some (key, node) ≡ head_of (later last es) → IsNext last (λ k. change_of None (at nat_cmp k es)) (Some (key, record { old = None; new = Some value; kind = Added }))
   some_added key node value value_is r_is = rw value_is (next_added last es (Some (key, node)) (found_next (Some (key, node)) r_is))
 
-  pub some_removed : (key : ℕ) (node : NodeView T) (value : T) → value ≡ node.value → Some (key, node) ≡ first_of (later last es) → IsNext last (λ k. change_of (at nat_cmp k es) None) (Some (key, record { old = Some value; new = None; kind = Removed }))
+  pub some_removed : (key : ℕ) (node : NodeView T) (value : T) → value ≡ node.value → Some (key, node) ≡ head_of (later last es) → IsNext last (λ k. change_of (at nat_cmp k es) None) (Some (key, record { old = Some value; new = None; kind = Removed }))
   some_removed key node value value_is r_is = rw value_is (next_removed last es (Some (key, node)) (found_next (Some (key, node)) r_is))
 
 none_but : {V : Type 0} (o : Option V) → ((v : V) → o ≡ Some v → ⊥) → o ≡ None
@@ -58,22 +59,22 @@ pub record IsOnly {T : Type 0} (key : ℕ) (node : NodeView T) (es : Entries T) 
   pub others : (k : ℕ) → k ≢ key → at nat_cmp k es ≡ None
 
 module _ {T : Type 0} where
-  at_first : (key : ℕ) (node : NodeView T) (es : Entries T) → Some (key, node) ≡ first_of es → at nat_cmp key es ≡ Some node
+  at_first : (key : ℕ) (node : NodeView T) (es : Entries T) → Some (key, node) ≡ head_of es → at nat_cmp key es ≡ Some node
   at_first key node [] is = absurd (none-some (key, node) (sym is))
   at_first key node (e ∷ es) is =
       let same : (key, node) ≡ e = cc in
       subst (λ (z : ℕ × NodeView T). at nat_cmp z.0 (e ∷ es) ≡ Some z.1) (sym same) (rw (cmp-same e.0) refl)
 
-  pub leaf_key : {key : ℕ} {node : NodeView T} (t : TreeView T) → IsSound t → t.width ≡ 0 → Some (key, node) ≡ first_of t.entries → key ≡ t.low
+  pub leaf_key : {key : ℕ} {node : NodeView T} (t : TreeView T) → IsSound t → t.width ≡ 0 → Some (key, node) ≡ head_of t.entries → key ≡ t.low
   leaf_key {key} {node} t sound zero is = zero_covers zero (at_key (Covers t.low t.width) key node t.entries sound.keys (at_first key node t.entries is))
 
-  pub leaf_only : {key : ℕ} {node : NodeView T} (t : TreeView T) → IsSound t → t.width ≡ 0 → Some (key, node) ≡ first_of t.entries → IsOnly key node t.entries
+  pub leaf_only : {key : ℕ} {node : NodeView T} (t : TreeView T) → IsSound t → t.width ≡ 0 → Some (key, node) ≡ head_of t.entries → IsOnly key node t.entries
   leaf_only {key} {node} t sound zero is = record {
     there = at_first key node t.entries is;
     others = λ k apart. none_but (at nat_cmp k t.entries) (λ v found. apart (zero_covers zero (at_key (Covers t.low t.width) k v t.entries sound.keys found) ∙ sym (leaf_key t sound zero is)));
   }
 
-  pub leaf_beside : {key other : ℕ} {m n : NodeView T} (old new : TreeView T) → IsSound old → IsSound new → old.width ≡ 0 → new.width ≡ 0 → old.low ≡ new.low → Some (key, m) ≡ first_of old.entries → Some (other, n) ≡ first_of new.entries → IsOnly key n new.entries
+  pub leaf_beside : {key other : ℕ} {m n : NodeView T} (old new : TreeView T) → IsSound old → IsSound new → old.width ≡ 0 → new.width ≡ 0 → old.low ≡ new.low → Some (key, m) ≡ head_of old.entries → Some (other, n) ≡ head_of new.entries → IsOnly key n new.entries
   leaf_beside {key} {other} {m} {n} old new sound_old sound_new zero_old zero_new low_is first_old first_new =
       let one_key : other ≡ key = leaf_key new sound_new zero_new first_new ∙ sym low_is ∙ sym (leaf_key old sound_old zero_old first_old) in
       subst (λ (k : ℕ). IsOnly k n new.entries) one_key (leaf_only new sound_new zero_new first_new)

@@ -1,6 +1,5 @@
 -- The list of all changes.
 use Rattle.std.proofs.Common.{◌≡◌, ℕ, ◌<◌, List, [], ◌∷◌, Option, None, Some, refl, sym, ap, ◌∙◌, subst, arith, inl, inr}
-use Rattle.std.specs.List.{All}
 use Rattle.std.specs.Ordering.{nat_cmp}
 use Rattle.std.specs.declared.cmp.Ordering.TheVariants.{Greater}
 use Rattle.std.proofs.lemmas.List.Elements.{All-nil, All-cons, All-head, All-tail, All-weaker}
@@ -8,7 +7,8 @@ use Rattle.std.proofs.lemmas.Option.{none-some}
 use Rattle.keyed.specs.Keyed.{at, put, Ascends}
 use Rattle.keyed.specs.KeyedLaws.{by_order, decide, at-put, at-put_other, ascends-put}
 use Rattle.keyed.specs.KeyOrders.{nat_order, nat_cmp-exact}
-use Rattle.node_map.specs.Steps.{first_of, later}
+use Rattle.keyed.specs.Ranges.{head_of}
+use Rattle.node_map.specs.Steps.{later}
 use Rattle.node_map.specs.TreeNode.{Entries}
 use Rattle.node_map.proofs.Order.{Above, cmp-same, at_above, above_all, below_first, lt_from_cmp}
 use Rattle.state_delta.specs.Change.{ChangeView}
@@ -91,11 +91,11 @@ module _ {T : Type 0} (old new : Entries T) (old_ascends : Ascends nat_cmp old) 
   delta_is = record { ascends = ascends_given (change_at old new) (joined old new) (ascends_joined old new new_ascends); each = at-delta }
 
   -- the first change past a key is the list's first entry there
-  pub next_in_delta : (last : Option ℕ) (r : Option (ℕ × ChangeView T)) → IsNext last (change_at old new) r → r ≡ first_of (later last (delta old new))
+  pub next_in_delta : (last : Option ℕ) (r : Option (ℕ × ChangeView T)) → IsNext last (change_at old new) r → r ≡ head_of (later last (delta old new))
   next_in_delta last r next =
-      let first = first_of (later last (delta old new)) in
+      let first = head_of (later last (delta old new)) in
       next_unique last (change_at old new) r first next (next_same last (change_at old new) (λ k. at nat_cmp k (delta old new)) first (λ k past. sym (at-delta k)) (next_entry last (delta old new)))
 
-pub first_none : {V : Type 0} (l : List (ℕ × V)) → None ≡ first_of l → l ≡ []
+pub first_none : {V : Type 0} (l : List (ℕ × V)) → None ≡ head_of l → l ≡ []
 first_none [] none = refl
 first_none (e ∷ l) none = absurd (none-some e none)

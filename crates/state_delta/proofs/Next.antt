@@ -6,7 +6,8 @@ use Rattle.std.proofs.lemmas.Bool.{ltb-true, ltb-false}
 use Rattle.std.proofs.lemmas.Option.{none-some}
 use Rattle.keyed.specs.Keyed.{at}
 use Rattle.node_core.specs.Node.{NodeView}
-use Rattle.node_map.specs.Steps.{first_of, later, later_than}
+use Rattle.keyed.specs.Ranges.{head_of}
+use Rattle.node_map.specs.Steps.{later, later_than}
 use Rattle.node_map.specs.TreeNode.{Entries}
 use Rattle.node_map.proofs.Order.{cmp-lt, cmp-gt, cmp-same}
 use Rattle.state_delta.specs.Change.{ChangeView, change_of}
@@ -75,17 +76,17 @@ module _ {V : Type 0} where
   at_first : (e : ℕ × V) (es : List (ℕ × V)) → at nat_cmp e.0 (e ∷ es) ≡ Some e.1
   at_first e es = rw (cmp-same e.0) refl
 
-  next_past_by : (j : ℕ) (e : ℕ × V) (es : List (ℕ × V)) (test : Bool) → ltb j e.0 ≡ test → IsNext (Some j) (λ k. at nat_cmp k es) (first_of (later_than j es)) → IsNext (Some j) (λ k. at nat_cmp k (e ∷ es)) (first_of (cond test (e ∷ es) (later_than j es)))
+  next_past_by : (j : ℕ) (e : ℕ × V) (es : List (ℕ × V)) (test : Bool) → ltb j e.0 ≡ test → IsNext (Some j) (λ k. at nat_cmp k es) (head_of (later_than j es)) → IsNext (Some j) (λ k. at nat_cmp k (e ∷ es)) (head_of (cond test (e ∷ es) (later_than j es)))
   next_past_by j e es true test next = (ltb-true j e.0 test, at_first e es, λ k past lt. rw (cmp-lt k e.0 lt) refl)
   next_past_by j e es false test next =
-      next_same (Some j) (λ k. at nat_cmp k (e ∷ es)) (λ k. at nat_cmp k es) (first_of (later_than j es)) (λ k past. let le = ltb-false j e.0 test in rw (cmp-gt k e.0 (omega arith)) refl) next
+      next_same (Some j) (λ k. at nat_cmp k (e ∷ es)) (λ k. at nat_cmp k es) (head_of (later_than j es)) (λ k past. let le = ltb-false j e.0 test in rw (cmp-gt k e.0 (omega arith)) refl) next
 
-  next_past : (j : ℕ) (es : List (ℕ × V)) → IsNext (Some j) (λ k. at nat_cmp k es) (first_of (later_than j es))
+  next_past : (j : ℕ) (es : List (ℕ × V)) → IsNext (Some j) (λ k. at nat_cmp k es) (head_of (later_than j es))
   next_past j [] = λ k past. refl
   next_past j (e ∷ es) = next_past_by j e es (ltb j e.0) refl (next_past j es)
 
   -- the first entry past a key is what the look-up finds first
-  pub next_entry : (last : Option ℕ) (es : List (ℕ × V)) → IsNext last (λ k. at nat_cmp k es) (first_of (later last es))
+  pub next_entry : (last : Option ℕ) (es : List (ℕ × V)) → IsNext last (λ k. at nat_cmp k es) (head_of (later last es))
   next_entry None [] = λ k past. refl
   next_entry None (e ∷ es) = (tt, at_first e es, λ k past lt. rw (cmp-lt k e.0 lt) refl)
   next_entry (Some j) es = next_past j es

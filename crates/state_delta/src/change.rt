@@ -38,7 +38,7 @@ pub(crate) fn node_change<'a, T>(
 {
     let kind = if old.born() != new.born() {
         Kind::Replaced
-    } else if old.generation() != new.generation() {
+    } else if old.gen_() != new.gen_() {
         Kind::Changed
     } else {
         return None;

@@ -85,9 +85,7 @@ fn are_leaves_of_one_key<T>(old: &Tree<T>, new: &Tree<T>) -> bool
 fn is_shared<T>(old: &Tree<T>, new: &Tree<T>) -> bool
     ensures { IsTrue result ↔ ((old.now.low ≡ new.now.low) × (old.now.width ≡ new.now.width) × (old.now.generation ≡ new.now.generation)) }
 {
-    old.generation() == new.generation()
-        && old.width() == new.width()
-        && old.low().is_same(&new.low())
+    old.gen_() == new.gen_() && old.width() == new.width() && old.low().is_same(&new.low())
 }
 
 // The first change past the last key. Two trees at one place and of one generation have the same

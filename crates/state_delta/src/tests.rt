@@ -225,7 +225,7 @@ fn are_same(map: &NodeMap<u64>, table: &BTreeMap<NodeKey, Entry>) -> bool {
         let Some((table_key, entry)) = entries.next() else {
             return false;
         };
-        if key != table_key || *entry != (*node.value(), node.generation(), node.born()) {
+        if key != table_key || *entry != (*node.value(), node.gen_(), node.born()) {
             return false;
         }
     }
@@ -238,7 +238,7 @@ fn finds_all(map: &NodeMap<u64>, table: &BTreeMap<NodeKey, Entry>) -> bool {
         let Some(node) = map.get(key) else {
             return false;
         };
-        if *entry != (*node.value(), node.generation(), node.born()) {
+        if *entry != (*node.value(), node.gen_(), node.born()) {
             return false;
         }
     }

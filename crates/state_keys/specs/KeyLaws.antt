@@ -22,7 +22,7 @@ use Rattle.state_keys.specs.Bits.{field, filled}
 use Rattle.state_keys.specs.Numbering.{IsNumbering}
 use Rattle.state_keys.specs.PartKeys.{family, vlan_number, port_number, intf_number, station_number, neighbor_number, rib_number, fib_number, vlan_of, port_of, intf_of, station_of, arp_of, ndp_of, ip_of, prefix_of, client_by, rib_of, fib_of, IsStation, IsArp, IsNdp, IsFib, IsRib}
 
-then-equal : (o : Ordering) → ordering_then o Equal ≡ o
+pub then-equal : (o : Ordering) → ordering_then o Equal ≡ o
 then-equal Less = refl
 then-equal Equal = refl
 then-equal Greater = refl
@@ -32,7 +32,7 @@ then-then Less p q = refl
 then-then Equal p q = refl
 then-then Greater p q = refl
 
-numbering : {K : Type 0} (cmp : K → K → Ordering) (Is : K → Type 0) (number : K → ℕ) (of : ℕ → K) → ((a b : K) → Is a → Is b → nat_cmp (number a) (number b) ≡ cmp a b) → ((a : K) → Is a → of (number a) ≡ a) → IsNumbering cmp Is number of
+pub numbering : {K : Type 0} (cmp : K → K → Ordering) (Is : K → Type 0) (number : K → ℕ) (of : ℕ → K) → ((a b : K) → Is a → Is b → nat_cmp (number a) (number b) ≡ cmp a b) → ((a : K) → Is a → of (number a) ≡ a) → IsNumbering cmp Is number of
 numbering cmp Is number of order back = record {
   order = order;
   back = back;
@@ -118,24 +118,24 @@ family_first (V4 n) (V6 m) rest = refl
 family_first (V6 n) (V4 m) rest = refl
 family_first (V6 n) (V6 m) rest = refl
 
-prefix_first : (a b : Cidr) (rest : Ordering) → ordering_then (nat_cmp (family a.ip) (family b.ip)) (ordering_then (nat_cmp (ip_number a.ip) (ip_number b.ip)) (ordering_then (nat_cmp a.len b.len) rest)) ≡ ordering_then (prefix_cmp a b) rest
+pub prefix_first : (a b : Cidr) (rest : Ordering) → ordering_then (nat_cmp (family a.ip) (family b.ip)) (ordering_then (nat_cmp (ip_number a.ip) (ip_number b.ip)) (ordering_then (nat_cmp a.len b.len) rest)) ≡ ordering_then (prefix_cmp a b) rest
 prefix_first a b rest = family_first a.ip b.ip (ordering_then (nat_cmp a.len b.len) rest) ∙ sym (then-then (ip_cmp a.ip b.ip) (nat_cmp a.len b.len) rest)
 
 -- what an ip and a length of its family keep to
-record IsWithin (ip : Ip) (len : ℕ) : Type 0 where
-  bit : family ip < 2 ^ 1
-  number : ip_number ip < 2 ^ 128
-  short : len < 2 ^ 8
+pub record IsWithin (ip : Ip) (len : ℕ) : Type 0 where
+  pub bit : family ip < 2 ^ 1
+  pub number : ip_number ip < 2 ^ 128
+  pub short : len < 2 ^ 8
 
-within : (ip : Ip) (len : ℕ) → ip_number ip < 2 ^ ip_width ip → len ≤ ip_width ip → IsWithin ip len
+pub within : (ip : Ip) (len : ℕ) → ip_number ip < 2 ^ ip_width ip → len ≤ ip_width ip → IsWithin ip len
 within (V4 n) len fits short = record { bit = omega arith; number = omega arith; short = omega arith }
 within (V6 n) len fits short = record { bit = omega arith; number = omega arith; short = omega arith }
 
-ip_back : (ip : Ip) (bit v4 v6 : ℕ) → ip_number ip < 2 ^ ip_width ip → bit ≡ family ip → v4 ≡ ip_number ip % 2 ^ 32 → v6 ≡ ip_number ip → (if bit == 0 then V4 v4 else V6 v6) ≡ ip
+pub ip_back : (ip : Ip) (bit v4 v6 : ℕ) → ip_number ip < 2 ^ ip_width ip → bit ≡ family ip → v4 ≡ ip_number ip % 2 ^ 32 → v6 ≡ ip_number ip → (if bit == 0 then V4 v4 else V6 v6) ≡ ip
 ip_back (V4 n) bit v4 v6 fits is is4 is6 = rw is (ap V4 (omega arith))
 ip_back (V6 n) bit v4 v6 fits is is4 is6 = rw is (ap V6 is6)
 
-prefix_is : (p : Cidr) (ip : Ip) (len : ℕ) → ip ≡ p.ip → len ≡ p.len → record { ip = ip; len = len } ≡ p
+pub prefix_is : (p : Cidr) (ip : Ip) (len : ℕ) → ip ≡ p.ip → len ≡ p.len → record { ip = ip; len = len } ≡ p
 prefix_is p ip len same_ip same_len = ap (λ (i : Ip). record { ip = i; len = len }) same_ip ∙ ap (λ (n : ℕ). record p { len = n }) same_len
 
 -- entries of the FIB
@@ -164,7 +164,7 @@ fib_numbering = numbering route_cmp IsFib fib_number fib_of
     fib_is k (field 0 16 n) (prefix_of n) first prefix)
 
 -- routes
-client_small : (c : Client) → client_number c < 2 ^ 3
+pub client_small : (c : Client) → client_number c < 2 ^ 3
 client_small Interface = omega arith
 client_small Static = omega arith
 client_small Openr = omega arith

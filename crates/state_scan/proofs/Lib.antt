@@ -2,3 +2,4 @@ pub mod Joining
 pub mod Listing
 pub mod Looking
 pub mod Neighbors
+pub mod Near

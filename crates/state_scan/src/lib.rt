@@ -5,6 +5,5 @@
 mod scan;
 
 pub use scan::{
-    first_intf_in, has_neighbor_on, has_orphan, is_port_used, is_vlan_used, neighbor_under,
-    overlaps_in, record_under,
+    has_neighbor_on, has_orphan, is_port_used, is_vlan_used, neighbor_under, record_under,
 };

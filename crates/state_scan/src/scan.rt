@@ -1,21 +1,21 @@
 // Walks over the maps of a state's parts.
-ghost use Rattle.std.specs.Prelude.{◌≡◌, ◌==◌, ◌&&◌, ◌||◌, not, All, option_copied, option_map, find};
-ghost use Rattle.std.specs.List.{list_any};
+ghost use Rattle.std.specs.Prelude.{◌≡◌, ◌==◌, ◌&&◌, ◌||◌, not, true, All, option_copied, option_map};
+ghost use Rattle.std.specs.List.{list_any, take_while};
 ghost use Rattle.std.specs.Ordering.{nat_cmp};
 ghost use Rattle.keyed.specs.Keyed.{at};
+ghost use Rattle.keyed.specs.Ranges.{onward};
 ghost use Rattle.keyed.specs.Sets.{delete};
 ghost use Rattle.switch_model.specs.Addresses.{addr_cmp, is_on};
-ghost use Rattle.switch_model.specs.Facts.{addrs_of, is_behind, overlaps_as};
+ghost use Rattle.switch_model.specs.Facts.{addrs_of, is_behind};
 ghost use Rattle.switch_model.specs.StateKeys.{neighbor_cmp};
-ghost use Rattle.state_keys.specs.PartKeys.{port_of, intf_of, station_of, arp_of, ndp_of, IsIntfNumber};
+ghost use Rattle.state_keys.specs.PartKeys.{port_of, intf_of, station_of, arp_of, ndp_of, IsStationNumber};
 ghost use Rattle.state_scan.specs.Listed.{listed};
 ghost use Rattle.state_scan.specs.Neighbors.{neighbors};
 ghost use Rattle.state_scan.specs.Neighbors.{AreNeighbors};
 
-use net_types::{Addr, Intf, Ip, Port, Prefix, Vlan, Vrf};
-use node_core::Node;
+use net_types::{Addr, Intf, Ip, Port, Vlan};
 use node_map::{NodeKey, NodeMap};
-use state_keys::{arp_ip, intf_of, is_in_vlan, is_on_intf, ndp_ip, neighbor_key};
+use state_keys::{arp_ip, intf_key, is_in_vlan, is_on_intf, ndp_ip, neighbor_key, vlan_key};
 use switch_model::{IntfRec, MacRec, NeighborKey, NeighborRec, PortRec};
 
 /// The record under a key.
@@ -43,40 +43,42 @@ pub fn neighbor_under<'a>(
     }
 }
 
-/// Whether a port, an interface or a station is in the VLAN.
-pub fn is_vlan_used(
-    ports: &NodeMap<PortRec>,
-    intfs: &NodeMap<IntfRec>,
-    macs: &NodeMap<MacRec>,
-    vlan: Vlan,
-) -> bool
-    ensures { result ≡ (list_any (λ e. e.1.vlan == vlan) (listed port_of ports.now.entries) || list_any (λ e. e.1.vlan == vlan) (listed intf_of intfs.now.entries) || list_any (λ e. e.0.vlan == vlan) (listed station_of macs.now.entries)) }
+/// Whether a port or a station is in the VLAN. Of the stations it looks at the VLAN's own alone.
+pub fn is_vlan_used(ports: &NodeMap<PortRec>, macs: &NodeMap<MacRec>, vlan: Vlan) -> bool
+    requires { All (λ e. IsStationNumber e.0) macs.now.entries }
+    ensures { result ≡ (list_any (λ e. e.1.vlan == vlan) (listed port_of ports.now.entries) || list_any (λ e. e.0.vlan == vlan) (listed station_of macs.now.entries)) }
 {
-    has_port_or_intf_in(ports, intfs, vlan) || has_station_in(macs, vlan)
-}
-
-fn has_port_or_intf_in(ports: &NodeMap<PortRec>, intfs: &NodeMap<IntfRec>, vlan: Vlan) -> bool
-    ensures { result ≡ (list_any (λ e. e.1.vlan == vlan) (listed port_of ports.now.entries) || list_any (λ e. e.1.vlan == vlan) (listed intf_of intfs.now.entries)) }
-{
-    has_port_in(ports, vlan) || has_intf_in(intfs, vlan)
+    has_station_in(macs, vlan) || has_port_in(ports, vlan)
 }
 
 fn has_port_in(ports: &NodeMap<PortRec>, vlan: Vlan) -> bool
+    ensures { result ≡ list_any (λ e. e.1.vlan == vlan) (listed port_of ports.now.entries) }
+{
+    some_port_in(ports, vlan)
+}
+
+fn some_port_in(ports: &NodeMap<PortRec>, vlan: Vlan) -> bool
     ensures { result ≡ list_any (λ e. e.1.value.vlan == vlan) ports.now.entries }
 {
     ports.walk().any(|(_, node)| node.value().vlan == vlan)
 }
 
-fn has_intf_in(intfs: &NodeMap<IntfRec>, vlan: Vlan) -> bool
-    ensures { result ≡ list_any (λ e. e.1.value.vlan == vlan) intfs.now.entries }
+fn has_station_in(macs: &NodeMap<MacRec>, vlan: Vlan) -> bool
+    requires { All (λ e. IsStationNumber e.0) macs.now.entries }
+    ensures { result ≡ list_any (λ e. e.0.vlan == vlan) (listed station_of macs.now.entries) }
 {
-    intfs.walk().any(|(_, node)| node.value().vlan == vlan)
+    macs.shape();
+    let first = vlan_key(vlan);
+    some_station_from(macs, &first, vlan)
 }
 
-fn has_station_in(macs: &NodeMap<MacRec>, vlan: Vlan) -> bool
-    ensures { result ≡ list_any (λ e. (station_of e.0).vlan == vlan) macs.now.entries }
+// Whether the stations from the key on begin with one in the VLAN.
+fn some_station_from(macs: &NodeMap<MacRec>, first: &NodeKey, vlan: Vlan) -> bool
+    ensures { result ≡ list_any (λ e. true) (take_while (λ e. (station_of e.0).vlan == vlan) (onward nat_cmp first.now macs.now.entries)) }
 {
-    macs.walk().any(|(key, _)| is_in_vlan(key, vlan))
+    macs.walk_from(first)
+        .take_while(|entry| is_in_vlan(entry.0, vlan))
+        .any(|_| true)
 }
 
 /// Whether a station or a reachable neighbour is behind the port.
@@ -111,50 +113,28 @@ fn some_behind(map: &NodeMap<NeighborRec>, port: Port) -> bool
     map.walk().any(|(_, node)| is_behind(port, node.value()))
 }
 
-/// Whether a neighbour is on the interface.
+/// Whether a neighbour is on the interface. It looks at the interface's own neighbours alone.
 pub fn has_neighbor_on(arps: &NodeMap<NeighborRec>, ndps: &NodeMap<NeighborRec>, intf: Intf) -> bool
     requires { AreNeighbors arps.now ndps.now }
     ensures { result ≡ list_any (λ e. e.0.intf == intf) (neighbors arps.now ndps.now) }
 {
-    some_on(arps, intf) || some_on(ndps, intf)
+    arps.shape();
+    ndps.shape();
+    let first = intf_key(intf);
+    some_on(arps, &first, intf) || some_on(ndps, &first, intf)
 }
 
-fn some_on(map: &NodeMap<NeighborRec>, intf: Intf) -> bool
-    ensures { result ≡ list_any (λ e. intf_of e.0 == intf) map.now.entries }
+// Whether the neighbours from the key on begin with one on the interface.
+fn some_on(map: &NodeMap<NeighborRec>, first: &NodeKey, intf: Intf) -> bool
+    ensures { result ≡ list_any (λ e. true) (take_while (λ e. intf_of e.0 == intf) (onward nat_cmp first.now map.now.entries)) }
 {
-    map.walk().any(|(key, _)| is_on_intf(key, intf))
+    map.walk_from(first)
+        .take_while(|entry| is_on_intf(entry.0, intf))
+        .any(|_| true)
 }
 
-/// The first interface of the VLAN.
-pub fn first_intf_in(intfs: &NodeMap<IntfRec>, vlan: Vlan) -> Option<Intf>
-    requires { All (λ e. IsIntfNumber e.0) intfs.now.entries }
-    ensures { result ≡ option_map (λ e. e.0) (find (λ e. e.1.vlan == vlan) (listed intf_of intfs.now.entries)) }
-{
-    match find_intf_in(intfs, vlan) {
-        Some(entry) => Some(intf_of(entry.0)),
-        None => None,
-    }
-}
-
-fn find_intf_in<'a>(
-    intfs: &'a NodeMap<IntfRec>,
-    vlan: Vlan,
-) -> Option<(&'a NodeKey, &'a Node<IntfRec>)>
-    ensures { option_map (λ e. (e.0.now, e.1.now)) result ≡ find (λ e. e.1.value.vlan == vlan) intfs.now.entries }
-{
-    intfs.walk().find(|(_, node)| node.value().vlan == vlan)
-}
-
-/// Whether the prefix overlaps a subnet of another one of the interfaces, in that VRF.
-pub fn overlaps_in(intfs: &NodeMap<IntfRec>, intf: Intf, vrf: Vrf, prefix: &Prefix) -> bool
-    ensures { result ≡ list_any (λ e. overlaps_as intf vrf prefix.now (intf_of e.0, e.1.value)) intfs.now.entries }
-{
-    intfs.walk().any(|(key, node)| {
-        !is_on_intf(key, intf) && node.value().vrf == vrf && node.value().addrs.overlaps(prefix)
-    })
-}
-
-/// Whether some neighbour of the interface isn't on it without that address.
+/// Whether some neighbour of the interface isn't on it without that address. It looks at the
+/// interface's own neighbours alone.
 pub fn has_orphan(
     arps: &NodeMap<NeighborRec>,
     ndps: &NodeMap<NeighborRec>,
@@ -165,29 +145,38 @@ pub fn has_orphan(
     requires { AreNeighbors arps.now ndps.now }
     ensures { result ≡ list_any (λ e. (e.0.intf == intf) && not (is_on (delete addr_cmp addr.now (addrs_of (option_copied own.entry))) e.0.ip)) (neighbors arps.now ndps.now) }
 {
-    some_arp_strays(arps, own, intf, addr) || some_ndp_strays(ndps, own, intf, addr)
+    arps.shape();
+    ndps.shape();
+    let first = intf_key(intf);
+    some_arp_strays(arps, &first, own, intf, addr) || some_ndp_strays(ndps, &first, own, intf, addr)
 }
 
 fn some_arp_strays(
     arps: &NodeMap<NeighborRec>,
+    first: &NodeKey,
     own: Option<&IntfRec>,
     intf: Intf,
     addr: &Addr,
 ) -> bool
-    ensures { result ≡ list_any (λ e. (intf_of e.0 == intf) && not (is_on (delete addr_cmp addr.now (addrs_of (option_copied own.entry))) (arp_of e.0).ip)) arps.now.entries }
+    ensures { result ≡ list_any (λ e. not (is_on (delete addr_cmp addr.now (addrs_of (option_copied own.entry))) (arp_of e.0).ip)) (take_while (λ e. intf_of e.0 == intf) (onward nat_cmp first.now arps.now.entries)) }
 {
-    arps.walk().any(|(key, _)| is_on_intf(key, intf) && !stays_on(own, addr, arp_ip(key)))
+    arps.walk_from(first)
+        .take_while(|entry| is_on_intf(entry.0, intf))
+        .any(|(key, _)| !stays_on(own, addr, arp_ip(key)))
 }
 
 fn some_ndp_strays(
     ndps: &NodeMap<NeighborRec>,
+    first: &NodeKey,
     own: Option<&IntfRec>,
     intf: Intf,
     addr: &Addr,
 ) -> bool
-    ensures { result ≡ list_any (λ e. (intf_of e.0 == intf) && not (is_on (delete addr_cmp addr.now (addrs_of (option_copied own.entry))) (ndp_of e.0).ip)) ndps.now.entries }
+    ensures { result ≡ list_any (λ e. not (is_on (delete addr_cmp addr.now (addrs_of (option_copied own.entry))) (ndp_of e.0).ip)) (take_while (λ e. intf_of e.0 == intf) (onward nat_cmp first.now ndps.now.entries)) }
 {
-    ndps.walk().any(|(key, _)| is_on_intf(key, intf) && !stays_on(own, addr, ndp_ip(key)))
+    ndps.walk_from(first)
+        .take_while(|entry| is_on_intf(entry.0, intf))
+        .any(|(key, _)| !stays_on(own, addr, ndp_ip(key)))
 }
 
 /// A reachable neighbour that is behind the port.

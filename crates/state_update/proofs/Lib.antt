@@ -4,6 +4,6 @@ pub mod Changing
 pub mod Doubles
 pub mod Renewing
 pub mod Syncing
-pub mod Filtered
 pub mod Synced
 pub mod Building
+pub mod Soundness

@@ -1,10 +1,11 @@
 -- Cutting what isn't listed and putting what is comes to the same as cutting all and putting what is listed.
-use Rattle.std.proofs.Common.{◌≡◌, ◌↔◌, ◌==◌, ◌&&◌, not, ℕ, Bool, true, false, List, [], ◌∷◌, None, Some, Contains, filter, map, refl, sym, ap, ◌∙◌, subst, inl, inr}
+use Rattle.std.proofs.Common.{◌≡◌, ◌↔◌, ◌==◌, ◌&&◌, not, ℕ, Bool, true, false, List, [], ◌∷◌, ◌++◌, None, Some, Contains, filter, map, refl, sym, ap, ◌∙◌, subst, inl, inr}
 use Rattle.std.specs.List.{list_any}
 use Rattle.std.specs.Ordering.{eq_by_cmp, nat_cmp, ordering_then}
 use Rattle.std.specs.declared.cmp.Ordering.{Ordering}
 use Rattle.std.specs.declared.cmp.Ordering.TheVariants.{Equal}
 use Rattle.std.proofs.lemmas.Bool.{and_from, and_parts, both_ways, eq-eqb, eqb-true, not-true}
+use Rattle.std.proofs.lemmas.List.Elements.{Contains-append_left, Contains-append_right}
 use Rattle.keyed.specs.Keyed.{at, put, without, Ascends}
 use Rattle.keyed.specs.KeyOrders.{nat_order}
 use Rattle.keyed.specs.KeyedLaws.{decide, same, same_at, ascends-put, at-put, at-put_other, ascends-without, at-without, at-without_other}
@@ -17,15 +18,18 @@ use Rattle.switch_model.specs.declared.key.RibKey.{RibKey}
 use Rattle.switch_model.specs.declared.record.RouteRec.{RouteRec}
 use Rattle.switch_model.specs.declared.via.Via.{Via}
 use Rattle.switch_model.specs.Effect.{is_route_of, route_of, with_routes}
+use Rattle.switch_model.specs.PlainState.{PlainState}
 use Rattle.switch_model.specs.StateKeys.{rib_cmp, rib_order}
+use Rattle.switch_model.specs.Touched.{keys_listed, keys_there}
 use Rattle.node_map.specs.TreeNode.{Entries}
 use Rattle.state_keys.specs.KeyLaws.{rib_numbering}
-use Rattle.state_keys.specs.PartKeys.{rib_of}
+use Rattle.state_keys.specs.PartKeys.{rib_number, rib_of}
 use Rattle.state_scan.specs.Listed.{listed}
 use Rattle.state_update.specs.Sync.{is_unlisted, without_routes, IsRouteNumber}
 use Rattle.state_update.proofs.Cases.{by_bool, by_option}
 use Rattle.state_update.proofs.Doubles.{any_contains, any_same, contains_any}
-use Rattle.state_update.proofs.Filtered.{ascends-filter, at-filter_in, at-filter_out, at_contains}
+use Rattle.keyed.specs.EntryLaws.{at_contains}
+use Rattle.keyed.specs.FilterLaws.{ascends-filter, at-filter_in, at-filter_out}
 use Rattle.state_update.proofs.Syncing.{key_of, unlisted_of}
 
 -- the key is that of the client's route in the VRF to one of the prefixes
@@ -138,6 +142,28 @@ gone_apart vrf client rs routes taken is n cut stays =
     let fails : list_any (eq_by_cmp prefix_cmp found.0.0.prefix) listed ≡ false = not-true (list_any (eq_by_cmp prefix_cmp found.0.0.prefix) listed) (and_parts (is_route_of vrf client found.0.0) (not (list_any (eq_by_cmp prefix_cmp found.0.0.prefix) listed)) passes).1 in
     let prefixes : stays.0 ≡ found.0.0.prefix = sym (found.2 ∙ ap (λ (k : RibKey). k.prefix) keys) in
     both_ways (list_any (eq_by_cmp prefix_cmp found.0.0.prefix) listed) fails (contains_any prefix_cmp prefix_order found.0.0.prefix listed (subst (λ (p : Cidr). Contains listed p) prefixes stays.1))
+
+-- what is cut or put is touched
+pub gone_touched : (m : PlainState) (vrf : ℕ) (client : Client) (rs : List (Cidr × Via)) (taken : List Cidr) → taken ≡ map (λ e. e.0.prefix) (filter (λ e. is_unlisted vrf client (map (λ r. r.0) rs) e.0) m.routes) → (n : ℕ) → IsRouteNumber vrf client taken n → Contains (map rib_number (keys_there m vrf client ++ keys_listed vrf client rs)) n
+gone_touched m vrf client rs taken is n cut =
+    let listed : List Cidr = map (λ r. r.0) rs in
+    let test : RibKey × RouteRec → Bool = λ e. is_unlisted vrf client listed e.0 in
+    let has : Contains (map (λ e. e.0.prefix) (filter test m.routes)) cut.0 = subst (λ (l : List Cidr). Contains l cut.0) is cut.1 in
+    let found = contains_map (λ (e : RibKey × RouteRec). e.0.prefix) (filter test m.routes) cut.0 has in
+    let both = contains_filter test m.routes found.0 found.1 in
+    let own : is_route_of vrf client found.0.0 ≡ true = (and_parts (is_route_of vrf client found.0.0) (not (list_any (eq_by_cmp prefix_cmp found.0.0.prefix) listed)) both.1).0 in
+    let key : found.0.0 ≡ key_of vrf client cut.0 = own_key vrf client found.0.0 own ∙ ap (key_of vrf client) found.2 in
+    let there : Contains (keys_there m vrf client) found.0.0 = map_contains (λ (e : RibKey × RouteRec). e.0) (filter (λ e. is_route_of vrf client e.0) m.routes) found.0 (filter_contains (λ (e : RibKey × RouteRec). is_route_of vrf client e.0) m.routes found.0 both.0 own) in
+    let touched : Contains (keys_there m vrf client ++ keys_listed vrf client rs) (key_of vrf client cut.0) = Contains-append_left (keys_there m vrf client) (keys_listed vrf client rs) (key_of vrf client cut.0) (subst (λ (k : RibKey). Contains (keys_there m vrf client) k) key there) in
+    subst (λ (k : ℕ). Contains (map rib_number (keys_there m vrf client ++ keys_listed vrf client rs)) k) cut.3 (map_contains rib_number (keys_there m vrf client ++ keys_listed vrf client rs) (key_of vrf client cut.0) touched)
+
+pub listed_touched : (m : PlainState) (vrf : ℕ) (client : Client) (rs : List (Cidr × Via)) (n : ℕ) → IsRouteNumber vrf client (map (λ r. r.0) rs) n → Contains (map rib_number (keys_there m vrf client ++ keys_listed vrf client rs)) n
+listed_touched m vrf client rs n stays =
+    let found = contains_map (λ (r : Cidr × Via). r.0) rs stays.0 stays.1 in
+    let listed : Contains (keys_listed vrf client rs) (key_of vrf client found.0.0) = map_contains (λ (r : Cidr × Via). key_of vrf client r.0) rs found.0 found.1 in
+    let here : Contains (keys_listed vrf client rs) (key_of vrf client stays.0) = subst (λ (p : Cidr). Contains (keys_listed vrf client rs) (key_of vrf client p)) found.2 listed in
+    let touched : Contains (keys_there m vrf client ++ keys_listed vrf client rs) (key_of vrf client stays.0) = Contains-append_right (keys_there m vrf client) (keys_listed vrf client rs) (key_of vrf client stays.0) here in
+    subst (λ (k : ℕ). Contains (map rib_number (keys_there m vrf client ++ keys_listed vrf client rs)) k) stays.3 (map_contains rib_number (keys_there m vrf client ++ keys_listed vrf client rs) (key_of vrf client stays.0) touched)
 
 same_unlisted : (vrf : ℕ) (client : Client) (set given : List Cidr) → ((p : Cidr) → Contains set p ↔ Contains given p) → (k : RibKey) → is_unlisted vrf client set k ≡ is_unlisted vrf client given k
 same_unlisted vrf client set given members k = ap (λ (b : Bool). is_route_of vrf client k && not b) (any_same prefix_cmp prefix_order k.prefix set given (members k.prefix))

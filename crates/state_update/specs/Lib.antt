@@ -2,4 +2,4 @@ pub mod Births
 pub mod Kind
 pub mod Sync
 pub mod Applied
-pub mod Refused
+pub mod Made

@@ -1,8 +1,9 @@
 // What acts on VLANs, ports, interfaces and addresses do.
-ghost use Rattle.std.specs.Prelude.{◌≡◌, IfOk, OnOk};
+ghost use Rattle.std.specs.Prelude.{◌≡◌, ◌∷◌, [], IfOk, OnOk};
 ghost use Rattle.std.specs.Ordering.{nat_cmp};
 ghost use Rattle.keyed.specs.Keyed.{change};
 ghost use Rattle.switch_model.specs.Effect.{port_effect, with_addr, with_up, without_addr};
+ghost use Rattle.switch_model.specs.Touched.{touched, untouched};
 ghost use Rattle.switch_state.specs.Plain.{plain};
 ghost use Rattle.state_update.specs.Births.{KeepsRest};
 
@@ -14,7 +15,7 @@ use switch_state::StateEdit;
 /// Does an act on VLANs, ports, interfaces or addresses. Other acts do nothing here.
 pub(crate) fn change_ports(alloc: Global, edit: &mut StateEdit, act: &Act) -> Result<(), NoMemory>
     ensures effect { OnOk result (plain edit.new.state ≡ port_effect (plain edit.old.state) act.now) }
-    ensures rest { KeepsRest edit.old edit.new }
+    ensures rest { KeepsRest (touched (plain edit.old.state) act.now) edit.old edit.new }
 {
     match act {
         Act::VlanAdd { vlan, name } => add_vlan(alloc, edit, *vlan, name),
@@ -44,7 +45,7 @@ fn add_vlan(
     name: &VlanName,
 ) -> Result<(), NoMemory>
     ensures effect { OnOk result (plain edit.new.state ≡ port_effect (plain edit.old.state) (Act.VlanAdd vlan name.now)) }
-    ensures rest { KeepsRest edit.old edit.new }
+    ensures rest { KeepsRest (touched (plain edit.old.state) (Act.VlanAdd vlan name.now)) edit.old edit.new }
 {
     let name = name.copy(alloc)?;
     edit.put_vlan(vlan, VlanRec { name })
@@ -52,7 +53,7 @@ fn add_vlan(
 
 fn cut_vlan(edit: &mut StateEdit, vlan: Vlan) -> Result<(), NoMemory>
     ensures effect { OnOk result (plain edit.new.state ≡ port_effect (plain edit.old.state) (Act.VlanDel vlan)) }
-    ensures rest { KeepsRest edit.old edit.new }
+    ensures rest { KeepsRest (touched (plain edit.old.state) (Act.VlanDel vlan)) edit.old edit.new }
 {
     edit.vlans().shape();
     edit.cut_vlan(vlan)
@@ -60,14 +61,14 @@ fn cut_vlan(edit: &mut StateEdit, vlan: Vlan) -> Result<(), NoMemory>
 
 fn add_port(edit: &mut StateEdit, port: Port, vlan: Vlan) -> Result<(), NoMemory>
     ensures effect { OnOk result (plain edit.new.state ≡ port_effect (plain edit.old.state) (Act.PortAdd port vlan)) }
-    ensures rest { KeepsRest edit.old edit.new }
+    ensures rest { KeepsRest (touched (plain edit.old.state) (Act.PortAdd port vlan)) edit.old edit.new }
 {
     edit.put_port(port, PortRec { vlan, up: false })
 }
 
 fn cut_port(edit: &mut StateEdit, port: Port) -> Result<(), NoMemory>
     ensures effect { OnOk result (plain edit.new.state ≡ port_effect (plain edit.old.state) (Act.PortDel port)) }
-    ensures rest { KeepsRest edit.old edit.new }
+    ensures rest { KeepsRest (touched (plain edit.old.state) (Act.PortDel port)) edit.old edit.new }
 {
     edit.ports().shape();
     edit.cut_port(port)
@@ -75,7 +76,7 @@ fn cut_port(edit: &mut StateEdit, port: Port) -> Result<(), NoMemory>
 
 fn move_port(edit: &mut StateEdit, port: Port, vlan: Vlan) -> Result<(), NoMemory>
     ensures effect { OnOk result (plain edit.new.state ≡ port_effect (plain edit.old.state) (Act.PortVlan port vlan)) }
-    ensures rest { KeepsRest edit.old edit.new }
+    ensures rest { KeepsRest (touched (plain edit.old.state) (Act.PortVlan port vlan)) edit.old edit.new }
 {
     match edit.port(port) {
         Some(rec) => edit.put_port(port, PortRec { vlan, up: rec.up }),
@@ -85,7 +86,7 @@ fn move_port(edit: &mut StateEdit, port: Port, vlan: Vlan) -> Result<(), NoMemor
 
 fn flip_port(edit: &mut StateEdit, port: Port, up: bool) -> Result<(), NoMemory>
     ensures effect { OnOk result (plain edit.new.state ≡ record (plain edit.old.state) { ports = change nat_cmp port (with_up up) (plain edit.old.state).ports }) }
-    ensures rest { KeepsRest edit.old edit.new }
+    ensures rest { KeepsRest (record untouched { ports = port ∷ [] }) edit.old edit.new }
 {
     match edit.port(port) {
         Some(rec) => edit.put_port(port, PortRec { vlan: rec.vlan, up }),
@@ -100,7 +101,7 @@ fn add_intf(
     place: (Vlan, Vrf, Mac),
 ) -> Result<(), NoMemory>
     ensures effect { OnOk result (plain edit.new.state ≡ port_effect (plain edit.old.state) (Act.IntfAdd intf place.0 place.1 place.2)) }
-    ensures rest { KeepsRest edit.old edit.new }
+    ensures rest { KeepsRest (touched (plain edit.old.state) (Act.IntfAdd intf place.0 place.1 place.2)) edit.old edit.new }
 {
     let (vlan, vrf, mac) = place;
     let addrs = AddrList::new(alloc);
@@ -117,7 +118,7 @@ fn add_intf(
 
 fn cut_intf(edit: &mut StateEdit, intf: Intf) -> Result<(), NoMemory>
     ensures effect { OnOk result (plain edit.new.state ≡ port_effect (plain edit.old.state) (Act.IntfDel intf)) }
-    ensures rest { KeepsRest edit.old edit.new }
+    ensures rest { KeepsRest (touched (plain edit.old.state) (Act.IntfDel intf)) edit.old edit.new }
 {
     edit.intfs().shape();
     edit.cut_intf(intf)
@@ -125,7 +126,7 @@ fn cut_intf(edit: &mut StateEdit, intf: Intf) -> Result<(), NoMemory>
 
 fn add_addr(alloc: Global, edit: &mut StateEdit, intf: Intf, addr: &Addr) -> Result<(), NoMemory>
     ensures effect { OnOk result (plain edit.new.state ≡ port_effect (plain edit.old.state) (Act.AddrAdd intf addr.now)) }
-    ensures rest { KeepsRest edit.old edit.new }
+    ensures rest { KeepsRest (touched (plain edit.old.state) (Act.AddrAdd intf addr.now)) edit.old edit.new }
 {
     let Some(rec) = edit.intf(intf) else {
         return Ok(());
@@ -136,7 +137,7 @@ fn add_addr(alloc: Global, edit: &mut StateEdit, intf: Intf, addr: &Addr) -> Res
 
 fn cut_addr(alloc: Global, edit: &mut StateEdit, intf: Intf, addr: &Addr) -> Result<(), NoMemory>
     ensures effect { OnOk result (plain edit.new.state ≡ port_effect (plain edit.old.state) (Act.AddrDel intf addr.now)) }
-    ensures rest { KeepsRest edit.old edit.new }
+    ensures rest { KeepsRest (touched (plain edit.old.state) (Act.AddrDel intf addr.now)) edit.old edit.new }
 {
     let Some(rec) = edit.intf(intf) else {
         return Ok(());

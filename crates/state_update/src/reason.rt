@@ -4,7 +4,8 @@ ghost use Rattle.net_types.specs.KeyOrder.{prefix_cmp};
 ghost use Rattle.switch_model.specs.First.{first_that_holds};
 ghost use Rattle.switch_model.specs.Hops.{has_double};
 ghost use Rattle.switch_model.specs.PlainState.{route_at};
-ghost use Rattle.switch_model.specs.Reason.{hop_reasons, is_interface, reasons, route_reasons};
+ghost use Rattle.switch_model.specs.Reason.{hop_reasons, reason_of_act, route_reasons};
+ghost use Rattle.switch_model.specs.Facts.{is_interface};
 ghost use Rattle.switch_state.specs.Plain.{plain};
 
 use crate::hops::{hop_reason, hops_reason};
@@ -25,7 +26,7 @@ pub(crate) fn reason_of(
     edit: &StateEdit,
     act: &Act,
 ) -> Result<Option<Reason>, NoMemory>
-    ensures { IfOk result (λ r. r ≡ first_that_holds (reasons (plain edit.now.state) act.now)) }
+    ensures { IfOk result (λ r. r ≡ reason_of_act (plain edit.now.state) act.now) }
 {
     if let Some(reason) = port_reason(edit, act) {
         return Ok(Some(reason));

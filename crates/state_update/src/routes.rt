@@ -1,12 +1,14 @@
 // What acts on routes do.
 ghost use Rattle.std.specs.Prelude.{◌≡◌, IfOk, OnOk};
 ghost use Rattle.keyed.specs.Keyed.{put, without};
+ghost use Rattle.node_map.specs.Paths.{ArePathsMade};
 ghost use Rattle.state_keys.specs.PartKeys.{rib_number, IsRib};
 ghost use Rattle.switch_model.specs.Effect.{route_effect, route_of};
 ghost use Rattle.switch_model.specs.StateKeys.{rib_cmp};
 ghost use Rattle.switch_state.specs.EditKeys.{route_key};
+ghost use Rattle.switch_model.specs.Touched.{touched};
 ghost use Rattle.switch_state.specs.Plain.{plain};
-ghost use Rattle.state_update.specs.Births.{KeepsRest};
+ghost use Rattle.state_update.specs.Births.{KeepsRest, NewBirths};
 ghost use Rattle.state_update.specs.Sync.{Loses, Renews};
 
 use crate::sync::sync_client;
@@ -18,7 +20,7 @@ use switch_state::StateEdit;
 /// Does an act on routes. Other acts do nothing here.
 pub(crate) fn change_routes(alloc: Global, edit: &mut StateEdit, act: &Act) -> Result<(), NoMemory>
     ensures effect { OnOk result (plain edit.new.state ≡ route_effect (plain edit.old.state) act.now) }
-    ensures rest { KeepsRest edit.old edit.new }
+    ensures rest { KeepsRest (touched (plain edit.old.state) act.now) edit.old edit.new }
 {
     match act {
         Act::RouteSet {
@@ -51,6 +53,8 @@ pub(crate) fn put_route(
     ensures effect { OnOk result (plain edit.new.state ≡ record (plain edit.old.state) { routes = put rib_cmp (route_key key) (route_of via.now) (plain edit.old.state).routes }) }
     ensures others { edit.new ≡ record edit.old { state = record edit.old.state { routes = edit.new.state.routes } } }
     ensures births { Renews (λ n. rib_number (route_key key) ≡ n) edit.old.state.routes edit.new.state.routes }
+    ensures paths { ArePathsMade edit.old.state.version (λ n. rib_number (route_key key) ≡ n) edit.old.state.routes.nodes edit.new.state.routes.nodes }
+    ensures born { NewBirths edit.old.state.version edit.old.state.routes edit.new.state.routes }
     ensures range { IsRib (route_key key) }
 {
     let rec = route_of(alloc, via)?;
@@ -62,6 +66,8 @@ pub(crate) fn cut_route(edit: &mut StateEdit, key: (Vrf, Prefix, Client)) -> Res
     ensures effect { OnOk result (plain edit.new.state ≡ record (plain edit.old.state) { routes = without rib_cmp (route_key key) (plain edit.old.state).routes }) }
     ensures others { edit.new ≡ record edit.old { state = record edit.old.state { routes = edit.new.state.routes } } }
     ensures births { Loses (λ n. rib_number (route_key key) ≡ n) edit.old.state.routes edit.new.state.routes }
+    ensures paths { ArePathsMade edit.old.state.version (λ n. rib_number (route_key key) ≡ n) edit.old.state.routes.nodes edit.new.state.routes.nodes }
+    ensures born { NewBirths edit.old.state.version edit.old.state.routes edit.new.state.routes }
     ensures range { IsRib (route_key key) }
 {
     edit.routes().shape();

@@ -1,20 +1,23 @@
 // Routes of a client put in step with a list of them.
-ghost use Rattle.std.specs.Prelude.{◌≡◌, ◌++◌, ◌∷◌, [], All, IfOk, OnOk, filter, map, not, if◌then◌else◌};
+ghost use Rattle.std.specs.Prelude.{◌≡◌, ◌==◌, ◌++◌, ◌∷◌, [], All, IfOk, OnOk, filter, map, not, if◌then◌else◌};
 ghost use Rattle.std.specs.List.Sorted.{IsStrictlySortedBy};
 ghost use Rattle.keyed.specs.Keyed.{Ascends};
 ghost use Rattle.net_types.specs.KeyOrder.{prefix_cmp};
+ghost use Rattle.node_map.specs.Paths.{ArePathsMade};
+ghost use Rattle.state_keys.specs.Bits.{field};
 ghost use Rattle.state_keys.specs.PartKeys.{rib_of, IsRibNumber};
 ghost use Rattle.switch_model.specs.Effect.{is_route_of, with_routes};
 ghost use Rattle.switch_model.specs.StateKeys.{rib_cmp};
+ghost use Rattle.switch_model.specs.Touched.{keys_listed, keys_there, untouched};
 ghost use Rattle.switch_state.specs.Plain.{plain};
-ghost use Rattle.state_update.specs.Births.{KeepsRest};
+ghost use Rattle.state_update.specs.Births.{KeepsRest, NewBirths};
 ghost use Rattle.state_update.specs.Sync.{is_unlisted, without_routes, IsRouteNumber, Loses, Renews};
 
 use crate::prefixes::{has_prefix, prefixes_of};
 use crate::routes::{cut_route, put_route};
 use net_types::{Client, NoMemory, Prefix, Vrf};
 use node_map::{NodeKey, NodeMap};
-use state_keys::rib_of;
+use state_keys::{rib_of, vrf_key, vrf_of};
 use std::alloc::Global;
 use switch_model::{RibKey, RouteRec, Via};
 use switch_state::StateEdit;
@@ -29,7 +32,7 @@ pub(crate) fn sync_client(
     routes: &[(Prefix, Via)],
 ) -> Result<(), NoMemory>
     ensures effect { OnOk result (plain edit.new.state ≡ record (plain edit.old.state) { routes = with_routes vrf client routes.now (filter (λ e. not (is_route_of vrf client e.0)) (plain edit.old.state).routes) }) }
-    ensures rest { KeepsRest edit.old edit.new }
+    ensures rest { KeepsRest (record untouched { routes = keys_there (plain edit.old.state) vrf client ++ keys_listed vrf client routes.now }) edit.old edit.new }
 {
     let gone = unlisted(alloc, edit, vrf, client, routes)?;
     cut_routes(edit, vrf, client, gone.as_slice())?;
@@ -51,6 +54,7 @@ fn unlisted(
     unlisted_in(alloc, edit.routes(), vrf, client, listed.as_slice())
 }
 
+// Those of a map of routes. It looks at the routes of the VRF alone.
 fn unlisted_in(
     alloc: Global,
     routes: &NodeMap<RouteRec>,
@@ -62,11 +66,22 @@ fn unlisted_in(
     requires ascending { IsStrictlySortedBy prefix_cmp listed.now }
     ensures { IfOk result (λ v. v.items ≡ map (λ e. (rib_of e.0).prefix) (filter (λ e. is_unlisted vrf client listed.now (rib_of e.0)) routes.now.entries)) }
 {
+    routes.shape();
     let mut gone = Vec::new(alloc);
-    for (key, _) in routes.walk() {
+    for (key, _) in routes.walk_from(&vrf_key(vrf)) {
+        if !is_in_vrf(key, vrf) {
+            return Ok(gone);
+        }
         note_unlisted(&mut gone, key, vrf, client, listed)?;
     }
     Ok(gone)
+}
+
+// Whether the route whose key it is is in the VRF.
+fn is_in_vrf(key: &NodeKey, vrf: Vrf) -> bool
+    ensures { result ≡ (field 0 16 key.now == vrf) }
+{
+    vrf_of(key) == vrf
 }
 
 fn note_unlisted(
@@ -109,6 +124,8 @@ fn cut_routes(
     ensures effect { OnOk result (plain edit.new.state ≡ record (plain edit.old.state) { routes = without_routes vrf client prefixes.now (plain edit.old.state).routes }) }
     ensures others { edit.new ≡ record edit.old { state = record edit.old.state { routes = edit.new.state.routes } } }
     ensures births { Loses (IsRouteNumber vrf client prefixes.now) edit.old.state.routes edit.new.state.routes }
+    ensures paths { ArePathsMade edit.old.state.version (IsRouteNumber vrf client prefixes.now) edit.old.state.routes.nodes edit.new.state.routes.nodes }
+    ensures born { NewBirths edit.old.state.version edit.old.state.routes edit.new.state.routes }
 {
     for prefix in prefixes {
         cut_route(edit, (vrf, *prefix, client))?;
@@ -126,6 +143,8 @@ fn put_routes(
     ensures effect { OnOk result (plain edit.new.state ≡ record (plain edit.old.state) { routes = with_routes vrf client routes.now (plain edit.old.state).routes }) }
     ensures others { edit.new ≡ record edit.old { state = record edit.old.state { routes = edit.new.state.routes } } }
     ensures births { Renews (IsRouteNumber vrf client (map (λ r. r.0) routes.now)) edit.old.state.routes edit.new.state.routes }
+    ensures paths { ArePathsMade edit.old.state.version (IsRouteNumber vrf client (map (λ r. r.0) routes.now)) edit.old.state.routes.nodes edit.new.state.routes.nodes }
+    ensures born { NewBirths edit.old.state.version edit.old.state.routes edit.new.state.routes }
 {
     for route in routes {
         put_route(alloc, edit, (vrf, route.0, client), &route.1)?;

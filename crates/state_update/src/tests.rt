@@ -6,7 +6,7 @@ use node_map::NodeKey;
 use std::alloc::Global;
 use std::process::Abort;
 use std::test::Fail;
-use switch_model::{Act, Reason, RouteList, RouteRec, Update, Via};
+use switch_model::{Act, ActList, Reason, RouteList, RouteRec, Update, Via};
 use switch_state::{StateEdit, SwitchState};
 
 /// fe80::9
@@ -96,7 +96,7 @@ fn small_acts(alloc: Global, n: &Names) -> Result<Vec<Act>, Fail> {
 /// All that the names speak of, at version 7.
 fn small_state(alloc: Global, n: &Names) -> Result<SwitchState, Fail> {
     let acts = small_acts(alloc, n)?;
-    Ok(build(alloc, 7, acts.as_slice())?)
+    Ok(build(alloc, 7, &ActList::from_vec(acts))?)
 }
 
 /// An edit of the state, at the next version.
@@ -277,7 +277,8 @@ fn keeps_used<R: Abort + AllocGlobal>(rt: &R, state: &SwitchState, n: &Names) ->
 #[test]
 fn the_first_refused_act_is_named(rt: HostRuntime) -> Result<(), Fail> {
     let port = Port::new(1).ok_or("no port")?;
-    let acts = [Act::PortUp { port }];
+    let mut acts = ActList::new(rt.alloc());
+    acts.push(Act::PortUp { port })?;
     match build(rt.alloc(), 7, &acts) {
         Err(fault) => is_first(&rt, fault),
         Ok(_) => Err("built".into()),
@@ -349,7 +350,7 @@ fn ages(state: &SwitchState) -> [Option<(u64, u64)>; 3] {
 
 fn age(entry: Option<(&NodeKey, &Node<RouteRec>)>) -> Option<(u64, u64)> {
     match entry {
-        Some((_, node)) => Some((node.born(), node.generation())),
+        Some((_, node)) => Some((node.born(), node.gen_())),
         None => None,
     }
 }

@@ -104,3 +104,6 @@ addr_del_of_a_link_local_address = refl
 
 addr_del_of_no_address_of_no_interface : IsFirst small (AddrDel 3 (slash (ten 1) 24)) NoIntf (NoAddr ∷ [])
 addr_del_of_no_address_of_no_interface = (refl, refl)
+
+addr_del_of_another_length_over_a_neighbor : IsFirst small (AddrDel 1 (slash (ten 1) 25)) NoAddr (AddrInUse ∷ [])
+addr_del_of_another_length_over_a_neighbor = (refl, refl)

@@ -33,6 +33,12 @@ neighbor_set_outside_the_subnets_behind_a_port_of_another_vlan = (refl, refl)
 neighbor_set_of_no_mac_outside_the_subnets : IsFirst small (NeighborSet 1 (dotted 10 0 1 8) 0 1) BadMac (NotInSubnet ∷ [])
 neighbor_set_of_no_mac_outside_the_subnets = (refl, refl)
 
+neighbor_set_of_no_mac_on_no_interface : IsFirst small (NeighborSet 3 (ten 8) 0 1) NoIntf (BadMac ∷ NotInSubnet ∷ PortNotInVlan ∷ [])
+neighbor_set_of_no_mac_on_no_interface = (refl, refl)
+
+neighbor_set_behind_no_port_on_no_interface : IsFirst small (NeighborSet 3 (ten 8) (mac 0 8) 3) NoPort (NoIntf ∷ NotInSubnet ∷ PortNotInVlan ∷ [])
+neighbor_set_behind_no_port_on_no_interface = (refl, refl)
+
 -- a link-local ip is on each interface
 neighbor_set_of_a_link_local_ip : why small (NeighborSet 1 (link_local 9) (mac 0 8) 1) ≡ None
 neighbor_set_of_a_link_local_ip = refl
@@ -89,6 +95,12 @@ mac_set_behind_a_port_of_another_vlan = refl
 
 mac_set_of_no_mac_behind_a_port_of_another_vlan : IsFirst small (MacSet 10 0 2) BadMac (PortNotInVlan ∷ [])
 mac_set_of_no_mac_behind_a_port_of_another_vlan = (refl, refl)
+
+mac_set_of_no_mac_behind_no_port : IsFirst small (MacSet 10 0 3) NoPort (BadMac ∷ PortNotInVlan ∷ [])
+mac_set_of_no_mac_behind_no_port = (refl, refl)
+
+mac_set_behind_no_port_in_no_vlan : IsFirst small (MacSet 13 (mac 0 8) 3) NoVlan (NoPort ∷ PortNotInVlan ∷ [])
+mac_set_behind_no_port_in_no_vlan = (refl, refl)
 
 -- mac del
 mac_del_of_a_station : why small (MacDel 10 (mac 0 9)) ≡ None

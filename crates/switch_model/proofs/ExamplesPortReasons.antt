@@ -100,6 +100,10 @@ port_vlan_of_a_port_in_use = refl
 port_vlan_of_no_port_to_no_vlan : IsFirst small (PortVlan 3 13) NoVlan (NoPort ∷ [])
 port_vlan_of_no_port_to_no_vlan = (refl, refl)
 
+-- no updates build this state, in which a station's port isn't there
+port_vlan_of_no_port_that_is_used : IsFirst (record small { ports = [] }) (PortVlan 1 12) NoPort (PortInUse ∷ [])
+port_vlan_of_no_port_that_is_used = (refl, refl)
+
 port_vlan_of_a_port_in_use_to_no_vlan : IsFirst small (PortVlan 1 13) NoVlan (PortInUse ∷ [])
 port_vlan_of_a_port_in_use_to_no_vlan = (refl, refl)
 

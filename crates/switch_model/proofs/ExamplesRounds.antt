@@ -1,5 +1,5 @@
 -- Worked examples: runs, rounds and verdicts.
-use Rattle.std.proofs.Common.{◌≡◌, ℕ, ◌+◌, true, false, List, [], ◌∷◌, map, take, length, refl, codes}
+use Rattle.std.proofs.Common.{◌≡◌, ℕ, ◌+◌, true, false, Ok, Err, List, [], ◌∷◌, map, take, length, refl, codes, arith}
 use Rattle.net_types.specs.declared.table.Table.TheVariants.{L2}
 use Rattle.switch_model.specs.declared.act.Act.{Act}
 use Rattle.switch_model.specs.declared.act.Act.TheVariants.{VlanAdd, PortAdd, PortUp, PortDown, MacSet, MacDel}
@@ -10,10 +10,13 @@ use Rattle.switch_model.specs.declared.journal.RoundKind.TheVariants.{Whole, One
 use Rattle.switch_model.specs.declared.verdict.Reason.TheVariants.{NoVlan, NoPort}
 use Rattle.switch_model.specs.declared.verdict.Verdict.{Verdict}
 use Rattle.switch_model.specs.declared.verdict.Verdict.TheVariants.{Accepted, Invalid, Full}
+use Rattle.switch_model.specs.Built.{built, laid}
+use Rattle.switch_model.specs.Legal.{IsLegal}
+use Rattle.switch_model.specs.MayComeOf.{MayComeOf}
 use Rattle.switch_model.specs.PlainState.{PlainState, empty}
 use Rattle.switch_model.specs.Rows.{rows}
 use Rattle.switch_model.specs.Totals.{totals}
-use Rattle.switch_model.specs.Journal.{Journal, entries, fold, with_round}
+use Rattle.switch_model.specs.Journal.{Journal, entries, fold, len, upto, with_round}
 use Rattle.switch_model.specs.Round.{run, next_round}
 use Rattle.switch_model.proofs.Notation.{mac, numbers, state}
 
@@ -128,3 +131,85 @@ run_up_to_one_alone = refl
 
 run_of_one_alone : run (submitted 0 (alone (PortUp 1) ∷ update (PortUp 1) ∷ [])) ≡ submitted 0 (alone (PortUp 1) ∷ [])
 run_of_one_alone = refl
+
+-- what a run leaves at its end: the first station's row, the last one's
+stations_of_swapped : map (λ e. e.0.mac) (rows (fold swapped)).l2 ≡ []
+stations_of_swapped = refl
+
+station_of_taken_turns : (rows (fold taken_turns)).l2 ≡ (record { vlan = 10; mac = mac 0 2 }, record { port = 1; up = false }) ∷ []
+station_of_taken_turns = refl
+
+-- an update of a run may need the one before it
+abbrev in_turn_updates : List Update
+in_turn_updates = update (VlanAdd 10 (codes "web")) ∷ update (PortAdd 1 10) ∷ []
+
+abbrev in_turn : Journal
+in_turn = played (opened empty 4) (in_turn_updates ∷ [])
+
+verdicts_of_in_turn : verdicts in_turn ≡ Accepted ∷ Accepted ∷ []
+verdicts_of_in_turn = refl
+
+versions_of_in_turn : versions in_turn ≡ 1 ∷ 1 ∷ []
+versions_of_in_turn = refl
+
+-- a whole round is legal, and comes of what it settled
+in_turn_is_legal : IsLegal in_turn
+in_turn_is_legal = (refl, ((((λ e. cc), refl), (refl, (refl, tt)), refl, (refl, (refl, tt))), tt))
+
+in_turn_may_come_of_its_updates : MayComeOf (submitted 0 in_turn_updates) in_turn
+in_turn_may_come_of_its_updates = record { legal = in_turn_is_legal; settled = (_, refl); rounds = ((2, omega arith, omega arith, omega arith, refl), tt) }
+
+-- where a run doesn't fit its first submission may be invalid, and then the version stays
+abbrev crowded_updates : List Update
+crowded_updates = update (MacSet 10 (mac 0 1) 7) ∷ update (MacSet 10 (mac 0 1) 1) ∷ update (MacSet 10 (mac 0 2) 1) ∷ []
+
+abbrev invalid_first : Journal
+invalid_first = played one_place (crowded_updates ∷ [])
+
+kinds_of_invalid_first : kinds invalid_first ≡ One ∷ []
+kinds_of_invalid_first = refl
+
+verdicts_of_invalid_first : verdicts invalid_first ≡ Invalid NoPort ∷ []
+verdicts_of_invalid_first = refl
+
+versions_of_invalid_first : versions invalid_first ≡ 0 ∷ []
+versions_of_invalid_first = refl
+
+invalid_first_is_legal : IsLegal invalid_first
+invalid_first_is_legal = (refl, ((_, refl, refl, (refl, tt)), tt))
+
+invalid_first_may_come_of_its_updates : MayComeOf (submitted 0 crowded_updates) invalid_first
+invalid_first_may_come_of_its_updates = record { legal = invalid_first_is_legal; settled = (_, refl); rounds = ((3, omega arith, omega arith, omega arith, refl), tt) }
+
+-- an update that has a reason is invalid, though its rows would be over the capacity too
+abbrev invalid_and_over : Journal
+invalid_and_over = played one_place ((update (MacSet 10 (mac 0 1) 1) ∷ []) ∷ (update (MacSet 10 (mac 0 2) 7) ∷ update (MacSet 10 (mac 0 3) 1) ∷ []) ∷ [])
+
+verdicts_of_invalid_and_over : verdicts invalid_and_over ≡ Accepted ∷ Invalid NoPort ∷ []
+verdicts_of_invalid_and_over = refl
+
+kinds_of_invalid_and_over : kinds invalid_and_over ≡ Whole ∷ One ∷ []
+kinds_of_invalid_and_over = refl
+
+-- a journal as it was at its beginning, at the end of a round, between two ends, and as it is
+upto_none : (upto swapped 0).rounds ≡ []
+upto_none = refl
+
+upto_an_end : kinds (upto swapped 3) ≡ Whole ∷ Whole ∷ []
+upto_an_end = refl
+
+upto_between_two_ends : kinds (upto swapped 2) ≡ Whole ∷ []
+upto_between_two_ends = refl
+
+upto_all : upto swapped (len swapped) ≡ swapped
+upto_all = refl
+
+-- acts that build a state, and acts of which one is refused: by its place, or by its line
+acts_that_build : built empty (VlanAdd 10 (codes "web") ∷ PortAdd 1 10 ∷ []) ≡ Ok (state (VlanAdd 10 (codes "web") ∷ PortAdd 1 10 ∷ []))
+acts_that_build = refl
+
+second_act_refused : built empty (VlanAdd 10 (codes "web") ∷ PortAdd 1 11 ∷ PortUp 7 ∷ []) ≡ Err (1, NoVlan)
+second_act_refused = refl
+
+act_on_line_seven_refused : laid empty ((4, VlanAdd 10 (codes "web")) ∷ (7, PortUp 1) ∷ []) ≡ Err (7, NoPort)
+act_on_line_seven_refused = refl

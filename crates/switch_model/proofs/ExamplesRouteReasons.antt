@@ -59,6 +59,9 @@ route_set_over_33_times_a_hop = (refl, refl)
 route_set_over_no_hop_of_the_switch_itself : IsFirst small (RouteSet 0 (eight 20) Interface (Hops [])) InterfaceClient (NoHops ∷ [])
 route_set_over_no_hop_of_the_switch_itself = (refl, refl)
 
+route_set_twice_over_a_hop_of_another_family : IsFirst small (RouteSet 0 (eight 20) Ebgp (Hops (via_ip (link_local 2) ∷ via_ip (link_local 2) ∷ []))) FamilyMix (DoubleHop ∷ [])
+route_set_twice_over_a_hop_of_another_family = (refl, refl)
+
 -- route del
 route_del_of_a_route : why small (RouteDel 0 (eight 20) Static) ≡ None
 route_del_of_a_route = refl
@@ -107,3 +110,12 @@ client_sync_over_33_hops_and_over_no_hop = (refl, refl)
 
 client_sync_of_a_prefix_twice_over_a_hop_twice : IsFirst small (sync Ebgp ((eight 20, one_hop) ∷ (eight 20, Hops (copies 2)) ∷ [])) DoubleHop (DoublePrefix ∷ [])
 client_sync_of_a_prefix_twice_over_a_hop_twice = (refl, refl)
+
+client_sync_over_no_hop_of_the_switch_itself : IsFirst small (sync Interface ((eight 20, Hops []) ∷ [])) InterfaceClient (NoHops ∷ [])
+client_sync_over_no_hop_of_the_switch_itself = (refl, refl)
+
+client_sync_of_a_prefix_twice_over_a_hop_of_another_family : IsFirst small (sync Ebgp ((eight 20, other_family) ∷ (eight 20, one_hop) ∷ [])) FamilyMix (DoublePrefix ∷ [])
+client_sync_of_a_prefix_twice_over_a_hop_of_another_family = (refl, refl)
+
+client_sync_over_33_times_a_hop : IsFirst small (sync Ebgp ((eight 20, Hops (copies 33)) ∷ [])) TooManyHops (DoubleHop ∷ [])
+client_sync_over_33_times_a_hop = (refl, refl)

@@ -10,17 +10,20 @@ use Rattle.switch_model.specs.declared.act.Act.TheVariants.{VlanAdd, IntfAdd, Ad
 use Rattle.switch_model.specs.declared.key.RibKey.{RibKey}
 use Rattle.switch_model.specs.declared.record.FibEntry.{FibEntry}
 use Rattle.switch_model.specs.declared.record.FibEntry.TheVariants as fib
+use Rattle.switch_model.specs.declared.record.RouteRec.TheVariants as kept
 use Rattle.switch_model.specs.declared.verdict.Reason.TheVariants.{InterfaceClient, FamilyMix, NoHops, TooManyHops, DoubleHop, DoublePrefix}
 use Rattle.switch_model.specs.declared.via.Via.{Via}
 use Rattle.switch_model.specs.declared.via.Via.TheVariants.{Hops, ToCpu, Discard}
+use Rattle.switch_model.specs.BestRoute.{learnt}
 use Rattle.switch_model.specs.Fib.{fib, fibs}
 use Rattle.switch_model.specs.LongestMatch.{longest_match}
 use Rattle.switch_model.specs.PlainState.{PlainState, rib}
+use Rattle.switch_model.specs.Sound.{IsSound}
 use Rattle.switch_model.proofs.Notation.{dotted, ten, link_local, slash, eight, mac, via_ip, via_intf, numbers, after, state, why}
 use Rattle.switch_model.proofs.ExamplesAddresses.{two_interfaces}
 
 -- hops `10.0.0.from` and on, so many of them
-abbrev hops_from : ℕ → ℕ → Via
+abbrev pub hops_from : ℕ → ℕ → Via
 hops_from from count = Hops (map (λ d. via_ip (ten d)) (numbers from count))
 
 abbrev entry : PlainState → Cidr → Option FibEntry
@@ -63,7 +66,7 @@ hop_with_and_without_interface : why two_interfaces (RouteSet 0 (eight 20) Ebgp 
 hop_with_and_without_interface = refl
 
 -- three routes with 65 hops between them, and one over all three
-abbrev wide : List Act
+abbrev pub wide : List Act
 wide = RouteSet 0 (eight 20) Ebgp (hops_from 10 32) ∷ RouteSet 0 (eight 21) Ebgp (hops_from 42 32) ∷ RouteSet 0 (eight 22) Ebgp (hops_from 74 1)
     ∷ RouteSet 0 (eight 30) Ebgp (Hops (via_ip (dotted 20 0 0 1) ∷ via_ip (dotted 21 0 0 1) ∷ via_ip (dotted 22 0 0 1) ∷ [])) ∷ []
 
@@ -95,9 +98,6 @@ hop_by_the_default_route = refl
 abbrev pub looped : PlainState
 looped = after by_default (RouteSet 0 (eight 40) Ebgp (Hops (via_ip (dotted 50 0 0 1) ∷ [])) ∷ RouteSet 0 (eight 50) Ebgp (Hops (via_ip (dotted 40 0 0 1) ∷ [])) ∷ [])
 
-longest_match_of_a_loop : option_map (λ x. x.0) (longest_match (rib looped) 0 (dotted 40 0 0 9)) ≡ Some (eight 40)
-longest_match_of_a_loop = refl
-
 loop_gives_nothing : entry looped (eight 40) ≡ None
 loop_gives_nothing = refl
 
@@ -125,14 +125,14 @@ connected_before_routes : entry (after one_interface (RouteSet 0 (slash (ten 0) 
 connected_before_routes = refl
 
 -- two interfaces without addresses, the second one in VRF 1
-abbrev two_vrfs : PlainState
+abbrev pub two_vrfs : PlainState
 two_vrfs = state (VlanAdd 10 (codes "a") ∷ VlanAdd 11 (codes "b") ∷ IntfAdd 1 10 0 (mac 1 1) ∷ IntfAdd 3 11 1 (mac 1 3) ∷ [])
 
 -- `2001:db8::/32`
-abbrev documentation : Cidr
+abbrev pub documentation : Cidr
 documentation = slash (V6 (536939960 * 2 ^ 96)) 32
 
-abbrev by_link_local : ℕ → Act
+abbrev pub by_link_local : ℕ → Act
 by_link_local vrf = RouteSet vrf documentation Ebgp (Hops (via_intf (link_local 1) 3 ∷ []))
 
 link_local_hop_of_another_vrf : fib (rib (after two_vrfs (by_link_local 0 ∷ []))) 0 documentation ≡ None
@@ -162,3 +162,57 @@ empty_sync_takes_all_away = refl
 
 prefix_listed_twice : why one_interface (ClientSync 0 Ebgp ((eight 20, Discard) ∷ (eight 20, ToCpu) ∷ [])) ≡ Some DoublePrefix
 prefix_listed_twice = refl
+
+-- the match of an ip names the client of its best route
+match_of_the_nearest : longest_match (rib two_clients) 0 (dotted 20 1 2 3) ≡ Some (eight 20, learnt Ebgp (kept.Hops (via_ip (ten 2) ∷ [])))
+match_of_the_nearest = refl
+
+match_of_a_loop : longest_match (rib looped) 0 (dotted 40 0 0 9) ≡ Some (eight 40, learnt Ebgp (kept.Hops (via_ip (dotted 50 0 0 1) ∷ [])))
+match_of_a_loop = refl
+
+-- a hop over an interface that comes later leads nowhere before, and to the host then, whatever addresses the interface has
+abbrev over_interface_3 : PlainState
+over_interface_3 = after two_interfaces (RouteSet 0 (eight 30) Ebgp (Hops (via_intf (ten 9) 3 ∷ [])) ∷ [])
+
+no_entry_before_the_interface : entry over_interface_3 (eight 30) ≡ None
+no_entry_before_the_interface = refl
+
+entry_after_the_interface : entry (after over_interface_3 (VlanAdd 12 (codes "c") ∷ IntfAdd 3 12 0 (mac 0 9) ∷ [])) (eight 30) ≡ Some (fib.Forward (via_intf (ten 9) 3 ∷ []))
+entry_after_the_interface = refl
+
+-- a hop whose longest match is connected, though a route has the same prefix
+connected_beside_a_route : entry (after one_interface (RouteSet 0 (slash (ten 0) 24) Static Discard ∷ RouteSet 0 (eight 20) Ebgp (hops_from 2 1) ∷ [])) (eight 20) ≡ Some (fib.Forward (via_intf (ten 2) 1 ∷ []))
+connected_beside_a_route = refl
+
+-- one subnet in two VRFs
+abbrev same_subnet : PlainState
+same_subnet = state (VlanAdd 10 (codes "a") ∷ VlanAdd 11 (codes "b") ∷ IntfAdd 5 10 0 (mac 1 1) ∷ IntfAdd 3 11 1 (mac 1 3) ∷ AddrAdd 5 (slash (ten 1) 24) ∷ AddrAdd 3 (slash (ten 1) 24) ∷ [])
+
+same_subnet_is_sound : IsSound same_subnet
+same_subnet_is_sound = refl
+
+entries_of_one_subnet_in_two_vrfs : fibs (rib same_subnet) ≡ (record { vrf = 0; prefix = slash (ten 0) 24 }, fib.Connected 5) ∷ (record { vrf = 1; prefix = slash (ten 0) 24 }, fib.Connected 3) ∷ []
+entries_of_one_subnet_in_two_vrfs = refl
+
+-- a connected default route takes each ip, and a hop over another VRF's interface leads nowhere
+connected_default_route : entry (after same_subnet (AddrAdd 5 (slash (dotted 1 2 3 4) 0) ∷ RouteSet 0 (eight 20) Ebgp (Hops (via_ip (dotted 99 0 0 1) ∷ via_intf (ten 7) 3 ∷ [])) ∷ [])) (eight 20) ≡ Some (fib.Forward (via_intf (dotted 99 0 0 1) 5 ∷ []))
+connected_default_route = refl
+
+-- direct hops go by ip, and then by interface
+order_of_direct_hops : entry (after two_interfaces (RouteSet 0 (eight 20) Ebgp (Hops (via_intf (ten 9) 2 ∷ via_intf (ten 9) 1 ∷ via_intf (ten 8) 2 ∷ [])) ∷ [])) (eight 20) ≡ Some (fib.Forward (via_intf (ten 8) 2 ∷ via_intf (ten 9) 1 ∷ via_intf (ten 9) 2 ∷ []))
+order_of_direct_hops = refl
+
+-- drop behind a loop
+drop_behind_a_loop : entry (after one_interface (RouteSet 0 (eight 40) Ebgp (Hops (via_ip (dotted 50 0 0 1) ∷ [])) ∷ RouteSet 0 (eight 50) Ebgp (Hops (via_ip (dotted 40 0 0 1) ∷ via_ip (dotted 60 0 0 1) ∷ [])) ∷ RouteSet 0 (eight 60) Static Discard ∷ [])) (eight 40) ≡ Some fib.Discard
+drop_behind_a_loop = refl
+
+-- a hop into the route's own prefix
+hop_into_its_own_prefix : entry (after one_interface (RouteSet 0 (eight 40) Ebgp (Hops (via_ip (dotted 40 0 0 1) ∷ [])) ∷ [])) (eight 40) ≡ None
+hop_into_its_own_prefix = refl
+
+-- one ip over two interfaces is two hops, and over one interface twice is one too many
+one_ip_over_two_interfaces : why two_interfaces (RouteSet 0 (eight 20) Ebgp (Hops (via_intf (ten 2) 1 ∷ via_intf (ten 2) 2 ∷ []))) ≡ None
+one_ip_over_two_interfaces = refl
+
+one_ip_twice_over_an_interface : why two_interfaces (RouteSet 0 (eight 20) Ebgp (Hops (via_intf (ten 2) 1 ∷ via_ip (ten 2) ∷ via_intf (ten 2) 1 ∷ []))) ≡ Some DoubleHop
+one_ip_twice_over_an_interface = refl

@@ -18,8 +18,9 @@ use Rattle.switch_model.specs.PlainState.{PlainState, empty}
 use Rattle.switch_model.specs.Rows.{rows}
 use Rattle.switch_model.specs.Sound.{IsSound}
 use Rattle.switch_model.specs.Totals.{totals}
-use Rattle.switch_model.proofs.Notation.{dotted, ten, slash, eight, mac, via_ip, via_intf, host, after, state}
-use Rattle.switch_model.proofs.ExamplesRoutes.{one_interface, looped}
+use Rattle.switch_model.proofs.Notation.{dotted, ten, link_local, slash, eight, mac, via_ip, via_intf, host, after, state}
+use Rattle.switch_model.proofs.ExamplesAddresses.{two_interfaces}
+use Rattle.switch_model.proofs.ExamplesRoutes.{one_interface, two_vrfs, documentation, by_link_local, wide, looped}
 
 rows_of_nothing : rows empty ≡ record { l2 = []; host = []; group = []; route = [] }
 rows_of_nothing = refl
@@ -129,3 +130,16 @@ host_row_of_a_neighbor = refl
 -- a neighbour whose interface is gone has no host row
 host_row_vanishes_with_its_interface : (rows (record with_neighbor { intfs = [] })).host ≡ []
 host_row_vanishes_with_its_interface = refl
+
+-- a host has the VRF of its interface; the route of another VRF over that interface has no row
+rows_in_another_vrf : rows (after two_vrfs (by_link_local 0 ∷ by_link_local 1 ∷ [])) ≡ record {
+  l2 = [];
+  host = (host (link_local 1) 3, record { vrf = 1; act = act.Trap }) ∷ [];
+  group = [];
+  route = (record { vrf = 1; prefix = documentation }, target.Host (host (link_local 1) 3)) ∷ [];
+}
+rows_in_another_vrf = refl
+
+-- of 65 hosts that a route reaches 64 are its group, beside the groups of the two routes between; each host has a row
+counts_of_64_hops : counts (rows (after two_interfaces wide)) ≡ 0 ∷ 65 ∷ 3 ∷ 5 ∷ []
+counts_of_64_hops = refl

@@ -9,3 +9,6 @@ mod ExamplesIntfReasons
 mod ExamplesNeighborReasons
 mod ExamplesRouteReasons
 mod ExamplesReasonOrder
+pub mod Leaving
+pub mod TouchedRuns
+mod ExamplesTouched

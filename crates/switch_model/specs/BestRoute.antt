@@ -32,11 +32,11 @@ abbrev pub nearer : RibKey × RouteRec → RibKey × RouteRec → RibKey × Rout
 nearer a b = if nat_lt (client_distance b.0.client) (client_distance a.0.client) then b else a
 
 -- a connected prefix goes before any route
-abbrev pub best_as : Option ℕ → Option (RibKey × RouteRec) → Option BestRoute
-best_as (Some intf) route = Some (connected intf)
-best_as None (Some e) = Some (learnt e.0.client e.1)
-best_as None None = None
+abbrev pub connected_first : Option ℕ → Option (RibKey × RouteRec) → Option BestRoute
+connected_first (Some intf) route = Some (connected intf)
+connected_first None (Some e) = Some (learnt e.0.client e.1)
+connected_first None None = None
 
 -- connected where an interface has that subnet, else the route of least distance
 abbrev pub best : Rib → ℕ → Cidr → Option BestRoute
-best rib vrf prefix = best_as (connected_to rib vrf prefix) (reduce nearer (routes_to rib vrf prefix))
+best rib vrf prefix = connected_first (connected_to rib vrf prefix) (reduce nearer (routes_to rib vrf prefix))

@@ -1,12 +1,12 @@
 -- Rules on the hops of a route, as they are given.
-use Rattle.std.specs.Prelude.{◌==◌, ◌||◌, not, nat_lt, Bool, false, List, [], ◌∷◌, length}
+use Rattle.std.specs.Prelude.{◌==◌, ◌||◌, not, nat_lt, Bool, false, List, [], ◌∷◌, length, map}
 use Rattle.std.specs.List.{list_any}
 use Rattle.std.specs.Ordering.{eq_by_cmp}
 use Rattle.std.specs.declared.cmp.Ordering.{Ordering}
 use Rattle.net_types.specs.declared.hop.Hop.{Hop}
 use Rattle.net_types.specs.Address.{ip_width}
 use Rattle.net_types.specs.Cidr.{Cidr}
-use Rattle.net_types.specs.KeyOrder.{hop_cmp}
+use Rattle.net_types.specs.KeyOrder.{hop_cmp, prefix_cmp}
 use Rattle.switch_model.specs.declared.via.Via.{Via}
 use Rattle.switch_model.specs.declared.via.Via.TheVariants.{Hops}
 
@@ -36,3 +36,7 @@ has_double cmp (k ∷ ks) = list_any (eq_by_cmp cmp k) ks || has_double cmp ks
 -- a hop stands twice, its interface included
 abbrev pub has_double_hop : Via → Bool
 has_double_hop via = has_double hop_cmp (hops_of via)
+
+-- a prefix stands twice in the list of routes
+abbrev pub has_double_prefix : List (Cidr × Via) → Bool
+has_double_prefix routes = has_double prefix_cmp (map (λ r. r.0) routes)

@@ -1,5 +1,6 @@
 -- The journal: how each submission was settled, in rounds.
-use Rattle.std.specs.Prelude.{ℕ, ◌≡◌, ◌-◌, ◌==◌, nat_le, List, [], ◌∷◌, ◌++◌, length, map, filter, if◌then◌else◌}
+use Rattle.std.specs.Prelude.{ℕ, ◌≡◌, ◌-◌, ◌==◌, nat_le, List, [], ◌∷◌, ◌++◌, length, drop, map, filter, if◌then◌else◌}
+use Rattle.keyed.specs.Prefix.{IsPrefix}
 use Rattle.net_types.specs.declared.table.Caps.{Caps}
 use Rattle.switch_model.specs.declared.act.Submission.{Submission}
 use Rattle.switch_model.specs.declared.act.Update.{Update}
@@ -74,7 +75,7 @@ with_round j round = record j { rounds = j.rounds ++ round ∷ [] }
 abbrev pub len : Journal → ℕ
 len j = length (entries j)
 
--- the rounds at the front that have n entries together, where n is 0 or the end of a round
+-- the first rounds, which have n entries together, where n is 0 or the end of a round
 abbrev pub rounds_upto : ℕ → List Round → List Round
 rounds_upto n [] = []
 rounds_upto n (round ∷ rounds) = if nat_le (length round.entries) n then round ∷ rounds_upto (n - length round.entries) rounds else []
@@ -83,10 +84,18 @@ rounds_upto n (round ∷ rounds) = if nat_le (length round.entries) n then round
 abbrev pub upto : Journal → ℕ → Journal
 upto j n = record j { rounds = rounds_upto n j.rounds }
 
--- one list is a front of another
-abbrev pub IsFront : {A : Type 0} → List A → List A → Type 0
-IsFront {A} front all = (rest : List A) × (all ≡ front ++ rest)
+-- one journal begins another: they have one opening, and the rounds of the first begin those of the second
+abbrev pub IsJournalPrefix : Journal → Journal → Type 0
+IsJournalPrefix j k = (j.opening ≡ k.opening) × IsPrefix j.rounds k.rounds
 
--- one journal is a front of another: they have one opening, and the rounds of the first begin those of the second
-abbrev pub IsJournalFront : Journal → Journal → Type 0
-IsJournalFront j k = (j.opening ≡ k.opening) × IsFront j.rounds k.rounds
+-- n entries are those of some first rounds, of none perhaps: a round ends there
+abbrev pub IsRoundEnd : Journal → ℕ → Type 0
+IsRoundEnd j n = (rounds : List Round) × IsPrefix rounds j.rounds × (n ≡ length (entries_of rounds))
+
+-- the update as its caller's next submission after those that were sent
+abbrev pub submission : List Submission → ℕ → Update → Submission
+submission sent caller update = record { caller = caller; seq = length (own caller sent); update = update }
+
+-- the submissions that no round has settled yet
+abbrev pub pending : List Submission → Journal → List Submission
+pending sent j = drop (len j) sent

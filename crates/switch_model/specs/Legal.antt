@@ -13,20 +13,20 @@ use Rattle.switch_model.specs.Effect.{effect}
 use Rattle.switch_model.specs.Rows.{rows}
 use Rattle.net_types.specs.Capacity.{over, Fits}
 use Rattle.switch_model.specs.Journal.{Journal, after_verdict, after_entries, version_after, submission_of}
-use Rattle.switch_model.specs.Round.{run, judged, tried, next_version}
+use Rattle.switch_model.specs.Round.{run, verdict_in_run, verdict_alone, next_version}
 
 -- submissions that may be settled together: they aren't none, and are their own run
 abbrev pub IsRun : List Submission → Type 0
 IsRun q = (q ≢ []) × (run q ≡ q)
 
 -- each entry is invalid exactly where a reason holds after the accepted entries before it, else accepted
-abbrev pub AreJudged : PlainState → List Entry → Type 0
-AreJudged m [] = Unit {0}
-AreJudged m (e ∷ es) = (e.verdict ≡ judged (reason m e.update)) × AreJudged (after_verdict m e.update e.verdict) es
+abbrev pub AreRightInRun : PlainState → List Entry → Type 0
+AreRightInRun m [] = Unit {0}
+AreRightInRun m (e ∷ es) = (e.verdict ≡ verdict_in_run (reason m e.update)) × AreRightInRun (after_verdict m e.update e.verdict) es
 
 -- the entry is invalid exactly where a reason holds; else full exactly where its result is over a capacity; else accepted
-abbrev pub IsTried : PlainState → Caps → Entry → Type 0
-IsTried m caps e = e.verdict ≡ tried (reason m e.update) (over (rows (effect m e.update.act)) caps)
+abbrev pub IsRightAlone : PlainState → Caps → Entry → Type 0
+IsRightAlone m caps e = e.verdict ≡ verdict_alone (reason m e.update) (over (rows (effect m e.update.act)) caps)
 
 -- each entry has the version after the round
 abbrev pub HaveVersion : ℕ → List Entry → Type 0
@@ -34,8 +34,8 @@ HaveVersion v es = AllByRecursion (λ e. e.version ≡ next_version v (map (λ x
 
 -- a round of that kind is right after that state and version
 abbrev pub IsRightAs : RoundKind → Caps → PlainState → ℕ → List Entry → Type 0
-IsRightAs Whole caps m v es = IsRun (map submission_of es) × AreJudged m es × Fits (rows (after_entries m es)) caps × HaveVersion v es
-IsRightAs One caps m v es = (e : Entry) × (es ≡ e ∷ []) × IsTried m caps e × HaveVersion v es
+IsRightAs Whole caps m v es = IsRun (map submission_of es) × AreRightInRun m es × Fits (rows (after_entries m es)) caps × HaveVersion v es
+IsRightAs One caps m v es = (e : Entry) × (es ≡ e ∷ []) × IsRightAlone m caps e × HaveVersion v es
 
 -- each round is right after those before it
 abbrev pub AreRight : Caps → PlainState → ℕ → List Round → Type 0

@@ -3,9 +3,12 @@ pub mod StateKeys
 pub mod Addresses
 pub mod PlainState
 pub mod Facts
+pub mod FactsLaws
 pub mod Hops
 pub mod Reason
 pub mod Effect
+pub mod Built
+pub mod BuiltLaws
 pub mod Sound
 pub mod BestRoute
 pub mod LongestMatch
@@ -20,4 +23,6 @@ pub mod Looking
 pub mod Journal
 pub mod Round
 pub mod Legal
-pub mod Reached
+pub mod MayComeOf
+pub mod Touched
+pub mod Untouched

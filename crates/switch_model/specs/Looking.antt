@@ -17,12 +17,12 @@ best_route (answer.Connected intf) = connected intf
 best_route (answer.Route client route) = learnt client route.now
 
 -- the FIB entry that an answer says
-abbrev pub entry_of : Resolved → Option FibEntry
-entry_of (Connected intf) = Some (fib.Connected intf)
-entry_of (Forward hops) = Some (fib.Forward hops)
-entry_of ToCpu = Some fib.ToCpu
-entry_of Discard = Some fib.Discard
-entry_of Nothing = None
+abbrev pub resolved_entry : Resolved → Option FibEntry
+resolved_entry (Connected intf) = Some (fib.Connected intf)
+resolved_entry (Forward hops) = Some (fib.Forward hops)
+resolved_entry ToCpu = Some fib.ToCpu
+resolved_entry Discard = Some fib.Discard
+resolved_entry Nothing = None
 
 -- past a key, where one is given
 abbrev pub is_past : Option RouteKey → RouteKey → Bool

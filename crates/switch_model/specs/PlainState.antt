@@ -1,7 +1,7 @@
 -- The state of the switch: what stands under each key.
 use Rattle.std.specs.Prelude.{ℕ, Option, List, []}
 use Rattle.std.specs.Ordering.{nat_cmp}
-use Rattle.keyed.specs.Keyed.{at}
+use Rattle.keyed.specs.Keyed.{at, Ascends}
 use Rattle.net_types.specs.KeyOrder.{l2_cmp}
 use Rattle.net_types.specs.declared.table.L2Key.{L2Key}
 use Rattle.switch_model.specs.declared.key.NeighborKey.{NeighborKey}
@@ -26,6 +26,15 @@ pub record PlainState : Type 0 where
 -- nothing stands anywhere
 abbrev pub empty : PlainState
 empty = record { vlans = []; ports = []; intfs = []; macs = []; neighbors = []; routes = [] }
+
+-- each part of the state ascends by key, so that no key stands twice in it
+pub record ArePartsInOrder (m : PlainState) : Type 0 where
+  pub vlans : Ascends nat_cmp m.vlans
+  pub ports : Ascends nat_cmp m.ports
+  pub intfs : Ascends nat_cmp m.intfs
+  pub macs : Ascends l2_cmp m.macs
+  pub neighbors : Ascends neighbor_cmp m.neighbors
+  pub routes : Ascends rib_cmp m.routes
 
 -- the record of the VLAN, where it is there
 abbrev pub vlan_at : PlainState → ℕ → Option VlanRec

@@ -21,50 +21,50 @@ use Rattle.switch_model.specs.declared.key.RibKey.{RibKey}
 use Rattle.switch_model.specs.declared.record.RouteRec.{RouteRec}
 use Rattle.switch_model.specs.declared.record.RouteRec.TheVariants.{Hops, ToCpu, Discard}
 use Rattle.switch_model.specs.Addresses.{same_addr}
-use Rattle.switch_model.specs.BestRoute.{BestRoute, connected, learnt, best, best_as, connected_to, routes_to, nearer}
+use Rattle.switch_model.specs.BestRoute.{BestRoute, connected, learnt, best, connected_first, connected_to, routes_to, nearer}
 use Rattle.switch_model.specs.LongestMatch.{longest_match, matches, longer, with_best}
 use Rattle.switch_model.specs.PlainState.{Rib}
-use Rattle.switch_model.specs.Reach.{Met, direct, onward, to_cpu, dropped, nothing, met_at, met_by, meets, is_of_vrf, hops_of_best, gives, IsChain, Reaches, onward_of, reached}
+use Rattle.switch_model.specs.Reach.{Lead, direct, onward, to_cpu, dropped, nothing, lead_of_match, lead_over, leads_to, is_of_vrf, hops_of_best, leads, IsChain, Reaches, onward_of, reached_within}
 
 -- chains
-pub reaches_first : (rib : Rib) (vrf : ℕ) (prefix : Cidr) (met : Met) → Contains (gives rib vrf prefix) met → Reaches rib vrf prefix met
+pub reaches_first : (rib : Rib) (vrf : ℕ) (prefix : Cidr) (met : Lead) → Contains (leads rib vrf prefix) met → Reaches rib vrf prefix met
 reaches_first rib vrf prefix met given = record { last = prefix; members = []; chain = refl; given = given }
 
-pub reaches_through : (rib : Rib) (vrf : ℕ) (prefix next : Cidr) (met : Met) → Contains (gives rib vrf prefix) (onward next) → Reaches rib vrf next met → Reaches rib vrf prefix met
+pub reaches_through : (rib : Rib) (vrf : ℕ) (prefix next : Cidr) (met : Lead) → Contains (leads rib vrf prefix) (onward next) → Reaches rib vrf next met → Reaches rib vrf prefix met
 reaches_through rib vrf prefix next met first rest = record { last = rest.last; members = next ∷ rest.members; chain = (first, rest.chain); given = rest.given }
 
--- what `reached` has is reached
-is_onward : (met : Met) (prefix : Cidr) → onward_of met ≡ Some prefix → met ≡ onward prefix
+-- what `reached_within` has is reached
+is_onward : (met : Lead) (prefix : Cidr) → onward_of met ≡ Some prefix → met ≡ onward prefix
 is_onward (onward p) prefix is = let same : p ≡ prefix = cc in ap onward same
 is_onward (direct host) prefix is = absurd (cc)
 is_onward to_cpu prefix is = absurd (cc)
 is_onward dropped prefix is = absurd (cc)
 is_onward nothing prefix is = absurd (cc)
 
-pub reaches-from_reached : (rib : Rib) (vrf n : ℕ) (prefix : Cidr) (met : Met) → Contains (reached rib vrf n prefix) met → Reaches rib vrf prefix met
+pub reaches-from_reached : (rib : Rib) (vrf n : ℕ) (prefix : Cidr) (met : Lead) → Contains (reached_within rib vrf n prefix) met → Reaches rib vrf prefix met
 reaches-from_reached rib vrf zero prefix met has = reaches_first rib vrf prefix met has
 reaches-from_reached rib vrf (suc n) prefix met has =
-    elim (Contains-append_cases (gives rib vrf prefix) (flat_map (reached rib vrf n) (filter_map onward_of (gives rib vrf prefix))) met has) [
+    elim (Contains-append_cases (leads rib vrf prefix) (flat_map (reached_within rib vrf n) (filter_map onward_of (leads rib vrf prefix))) met has) [
       | inl here ↦ reaches_first rib vrf prefix met here
       | inr later ↦
-          let found = contains_flat_map (reached rib vrf n) (filter_map onward_of (gives rib vrf prefix)) met later in
-          let by = contains_filter_map onward_of (gives rib vrf prefix) found.0 found.1 in
-          let P : Met → Type 0 = λ m. Contains (gives rib vrf prefix) m in
+          let found = contains_flat_map (reached_within rib vrf n) (filter_map onward_of (leads rib vrf prefix)) met later in
+          let by = contains_filter_map onward_of (leads rib vrf prefix) found.0 found.1 in
+          let P : Lead → Type 0 = λ m. Contains (leads rib vrf prefix) m in
           reaches_through rib vrf prefix found.0 met (subst P (is_onward by.0 found.0 by.2) by.1) (reaches-from_reached rib vrf n found.0 met found.2)
     ]
 
 -- a chain of at most n further members is counted in
-reached_here : (rib : Rib) (vrf n : ℕ) (prefix : Cidr) (met : Met) → Contains (gives rib vrf prefix) met → Contains (reached rib vrf n prefix) met
+reached_here : (rib : Rib) (vrf n : ℕ) (prefix : Cidr) (met : Lead) → Contains (leads rib vrf prefix) met → Contains (reached_within rib vrf n prefix) met
 reached_here rib vrf zero prefix met has = has
-reached_here rib vrf (suc n) prefix met has = Contains-append_left (gives rib vrf prefix) (flat_map (reached rib vrf n) (filter_map onward_of (gives rib vrf prefix))) met has
+reached_here rib vrf (suc n) prefix met has = Contains-append_left (leads rib vrf prefix) (flat_map (reached_within rib vrf n) (filter_map onward_of (leads rib vrf prefix))) met has
 
-reached-from_chain : (rib : Rib) (vrf n : ℕ) (prefix : Cidr) (members : List Cidr) (last : Cidr) (met : Met) → length members ≤ n → IsChain rib vrf prefix members last → Contains (gives rib vrf last) met → Contains (reached rib vrf n prefix) met
-reached-from_chain rib vrf n prefix [] last met short chain given = let P : Cidr → Type 0 = λ p. Contains (gives rib vrf p) met in reached_here rib vrf n prefix met (subst P (sym chain) given)
+reached-from_chain : (rib : Rib) (vrf n : ℕ) (prefix : Cidr) (members : List Cidr) (last : Cidr) (met : Lead) → length members ≤ n → IsChain rib vrf prefix members last → Contains (leads rib vrf last) met → Contains (reached_within rib vrf n prefix) met
+reached-from_chain rib vrf n prefix [] last met short chain given = let P : Cidr → Type 0 = λ p. Contains (leads rib vrf p) met in reached_here rib vrf n prefix met (subst P (sym chain) given)
 reached-from_chain rib vrf zero prefix (next ∷ more) last met short chain given = absurd (omega (arith, short))
 reached-from_chain rib vrf (suc n) prefix (next ∷ more) last met short chain given =
-    let rest : Contains (reached rib vrf n next) met = reached-from_chain rib vrf n next more last met (omega (arith, short)) chain.1 given in
-    let followed : Contains (filter_map onward_of (gives rib vrf prefix)) next = filter_map_contains onward_of (gives rib vrf prefix) (onward next) next chain.0 refl in
-    Contains-append_right (gives rib vrf prefix) (flat_map (reached rib vrf n) (filter_map onward_of (gives rib vrf prefix))) met (flat_map_contains (reached rib vrf n) (filter_map onward_of (gives rib vrf prefix)) next met followed rest)
+    let rest : Contains (reached_within rib vrf n next) met = reached-from_chain rib vrf n next more last met (omega (arith, short)) chain.1 given in
+    let followed : Contains (filter_map onward_of (leads rib vrf prefix)) next = filter_map_contains onward_of (leads rib vrf prefix) (onward next) next chain.0 refl in
+    Contains-append_right (leads rib vrf prefix) (flat_map (reached_within rib vrf n) (filter_map onward_of (leads rib vrf prefix))) met (flat_map_contains (reached_within rib vrf n) (filter_map onward_of (leads rib vrf prefix)) next met followed rest)
 
 -- a chain may be cut short, so that no further member stands in it twice
 record Cut (rib : Rib) (vrf : ℕ) (prefix last : Cidr) : Type 0 where
@@ -112,7 +112,7 @@ record MatchesHops (found : Option (Cidr × BestRoute)) (prefix : Cidr) : Type 0
   hops : List Hop
   is : found ≡ Some (prefix, learnt client (Hops hops))
 
-met_at_onward : (ip : Ip) (found : Option (Cidr × BestRoute)) (prefix : Cidr) → met_at ip found ≡ onward prefix → MatchesHops found prefix
+met_at_onward : (ip : Ip) (found : Option (Cidr × BestRoute)) (prefix : Cidr) → lead_of_match ip found ≡ onward prefix → MatchesHops found prefix
 met_at_onward ip None prefix is = absurd (cc)
 met_at_onward ip (Some (p, connected intf)) prefix is = absurd (cc)
 met_at_onward ip (Some (p, learnt client (Hops hops))) prefix is =
@@ -136,15 +136,15 @@ longest-best : (rib : Rib) (vrf : ℕ) (key : Option RouteKey) (prefix : Cidr) (
 longest-best rib vrf None prefix route is = absurd (cc)
 longest-best rib vrf (Some k) prefix route is = with_best-is rib vrf k.prefix prefix route (best rib vrf k.prefix) is refl
 
-meets_onward : (rib : Rib) (vrf : ℕ) (ip : Ip) (intf : Option ℕ) (prefix : Cidr) → met_by rib vrf ip intf ≡ onward prefix → HasHops rib vrf prefix
+meets_onward : (rib : Rib) (vrf : ℕ) (ip : Ip) (intf : Option ℕ) (prefix : Cidr) → lead_over rib vrf ip intf ≡ onward prefix → HasHops rib vrf prefix
 meets_onward rib vrf ip (Some intf) prefix is = absurd (by_intf_not_onward (is_of_vrf vrf (at nat_cmp intf rib.intfs)) (record { ip = ip; intf = intf }) prefix is)
 meets_onward rib vrf ip None prefix is =
     let found = met_at_onward ip (longest_match rib vrf ip) prefix is in
     record { client = found.client; hops = found.hops; best = longest-best rib vrf (reduce longer (matches rib vrf ip)) prefix (learnt found.client (Hops found.hops)) found.is }
 
-pub followed-has_hops : (rib : Rib) (vrf : ℕ) (prefix next : Cidr) → Contains (gives rib vrf prefix) (onward next) → HasHops rib vrf next
+pub followed-has_hops : (rib : Rib) (vrf : ℕ) (prefix next : Cidr) → Contains (leads rib vrf prefix) (onward next) → HasHops rib vrf next
 followed-has_hops rib vrf prefix next has =
-    let found = contains_map (meets rib vrf) (hops_of_best (best rib vrf prefix)) (onward next) has in
+    let found = contains_map (leads_to rib vrf) (hops_of_best (best rib vrf prefix)) (onward next) has in
     meets_onward rib vrf found.0.ip found.0.intf next found.2
 
 -- and so it is the prefix of a route
@@ -167,7 +167,7 @@ routed rib vrf prefix e has =
     let P : Cidr → Type 0 = λ p. Contains (map route_prefix rib.routes) p in
     subst P (sym same) (map_contains route_prefix rib.routes e found.0)
 
-learnt-routed : (rib : Rib) (vrf : ℕ) (prefix : Cidr) (intf : Option ℕ) (routes : List (RibKey × RouteRec)) (client : Client) (route : RouteRec) → best_as intf (reduce nearer routes) ≡ Some (learnt client route) → ((e : RibKey × RouteRec) → Contains routes e → Contains (map route_prefix rib.routes) prefix) → Contains (map route_prefix rib.routes) prefix
+learnt-routed : (rib : Rib) (vrf : ℕ) (prefix : Cidr) (intf : Option ℕ) (routes : List (RibKey × RouteRec)) (client : Client) (route : RouteRec) → connected_first intf (reduce nearer routes) ≡ Some (learnt client route) → ((e : RibKey × RouteRec) → Contains routes e → Contains (map route_prefix rib.routes) prefix) → Contains (map route_prefix rib.routes) prefix
 learnt-routed rib vrf prefix (Some intf) routes client route is among = absurd (cc)
 learnt-routed rib vrf prefix None [] client route is among = absurd (cc)
 learnt-routed rib vrf prefix None (e ∷ es) client route is among = among e (contains_first e es)
@@ -182,12 +182,12 @@ members-routed rib vrf prefix last (next ∷ more) chain p has = elim (contains_
   | inr rest ↦ members-routed rib vrf next last more chain.1 p rest
 ]
 
-pub reached-from_reaches : (rib : Rib) (vrf : ℕ) (prefix : Cidr) (met : Met) → Reaches rib vrf prefix met → Contains (reached rib vrf (length rib.routes) prefix) met
+pub reached-from_reaches : (rib : Rib) (vrf : ℕ) (prefix : Cidr) (met : Lead) → Reaches rib vrf prefix met → Contains (reached_within rib vrf (length rib.routes) prefix) met
 reached-from_reaches rib vrf prefix met r =
     let cut = cut_short rib vrf prefix r.last r.members r.chain in
     let few : length cut.members ≤ length (map route_prefix rib.routes) = few_distinct cut.members (map route_prefix rib.routes) cut.distinct (members-routed rib vrf prefix r.last cut.members cut.chain) in
     reached-from_chain rib vrf (length rib.routes) prefix cut.members r.last met (omega (arith, few, length-map rib.routes route_prefix)) cut.chain r.given
 
 -- what chains of at most as many further members as there are routes reach is what any chain reaches
-pub reached-exact : (rib : Rib) (vrf : ℕ) (prefix : Cidr) (met : Met) → Contains (reached rib vrf (length rib.routes) prefix) met ↔ Reaches rib vrf prefix met
+pub reached-exact : (rib : Rib) (vrf : ℕ) (prefix : Cidr) (met : Lead) → Contains (reached_within rib vrf (length rib.routes) prefix) met ↔ Reaches rib vrf prefix met
 reached-exact rib vrf prefix met = ((λ has. reaches-from_reached rib vrf (length rib.routes) prefix met has), (λ r. reached-from_reaches rib vrf prefix met r))

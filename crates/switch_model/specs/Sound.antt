@@ -1,5 +1,5 @@
 -- A sound state: one that updates can build.
-use Rattle.std.specs.Prelude.{◌≡◌, ℕ, is_none, Option, None, Some, List, [], ◌∷◌, ◌++◌, map, flat_map, if◌then◌else◌}
+use Rattle.std.specs.Prelude.{◌≡◌, ℕ, Ok, List, [], ◌∷◌, ◌++◌, map, flat_map, if◌then◌else◌}
 use Rattle.switch_model.specs.declared.act.Act.{Act}
 use Rattle.switch_model.specs.declared.act.Act.TheVariants.{VlanAdd, PortAdd, PortUp, IntfAdd, AddrAdd, NeighborSet, NeighborPending, MacSet, RouteSet}
 use Rattle.switch_model.specs.declared.key.NeighborKey.{NeighborKey}
@@ -11,10 +11,8 @@ use Rattle.switch_model.specs.declared.record.RouteRec.{RouteRec}
 use Rattle.switch_model.specs.declared.record.RouteRec.TheVariants as kept
 use Rattle.switch_model.specs.declared.via.Via.{Via}
 use Rattle.switch_model.specs.declared.via.Via.TheVariants.{Hops, ToCpu, Discard}
-use Rattle.switch_model.specs.Effect.{effect}
-use Rattle.switch_model.specs.First.{first_that_holds}
+use Rattle.switch_model.specs.Built.{built}
 use Rattle.switch_model.specs.PlainState.{PlainState, empty}
-use Rattle.switch_model.specs.Reason.{reasons}
 
 -- a new port is down
 abbrev pub port_acts : ℕ × PortRec → List Act
@@ -45,11 +43,6 @@ acts_of m = map (λ e. VlanAdd e.0 e.1.name) m.vlans
     ++ map (λ e. MacSet e.0.vlan e.0.mac e.1.port) m.macs
     ++ map (λ e. RouteSet e.0.vrf e.0.prefix e.0.client (via_of e.1)) m.routes
 
--- the acts in turn, as long as no reason holds against one
-abbrev pub built : PlainState → List Act → Option PlainState
-built m [] = Some m
-built m (act ∷ acts) = if is_none (first_that_holds (reasons m act)) then built (effect m act) acts else None
-
 -- those acts build the state
 abbrev pub IsSound : PlainState → Type 0
-IsSound m = built empty (acts_of m) ≡ Some m
+IsSound m = built empty (acts_of m) ≡ Ok m

@@ -1,6 +1,10 @@
 // Updates of the switch.
+ghost use Rattle.std.specs.Prelude.{◌≡◌, IfOk};
+
 use crate::via::{RouteList, Via};
-use net_types::{Addr, Client, Intf, Ip, Mac, Port, Prefix, Vlan, VlanName, Vrf};
+use net_types::{
+    Addr, Client, Intf, Ip, ItemList, Mac, NoMemory, Port, Prefix, Shared, Vlan, VlanName, Vrf,
+};
 
 /// One change of the switch.
 #[derive(Debug, Drop)]
@@ -103,10 +107,27 @@ pub struct Update {
     pub act: Act,
 }
 
-/// An update with its caller and that caller's own number for it, counted from 0.
+/// Changes, in the order in which they are made.
+pub type ActList = ItemList<Act>;
+
+/// An update with its caller and that caller's own number for it, counted from 0. The update is
+/// shared with all copies of the submission and with its entry of the journal.
 #[derive(Debug, Drop)]
 pub struct Submission {
     pub caller: u32,
     pub seq: u64,
-    pub update: Update,
+    pub update: Shared<Update>,
+}
+
+impl Submission {
+    /// The same submission, by one more link to its update.
+    pub fn copy(&self) -> Result<Submission, NoMemory>
+        ensures same { IfOk result (λ copy. copy ≡ self.now) }
+    {
+        Ok(Submission {
+            caller: self.caller,
+            seq: self.seq,
+            update: self.update.share()?,
+        })
+    }
 }

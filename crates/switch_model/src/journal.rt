@@ -1,16 +1,34 @@
 // The journal's entries and rounds.
+ghost use Rattle.std.specs.Prelude.{◌≡◌, IfOk};
+
 use crate::act::Update;
 use crate::verdict::Verdict;
-use net_types::ItemList;
+use net_types::{ItemList, NoMemory, Shared};
+use std::alloc::Global;
 
 /// A submission as it was settled. The version is that of the state after its round.
 #[derive(Debug, Drop)]
 pub struct Entry {
     pub caller: u32,
     pub seq: u64,
-    pub update: Update,
+    pub update: Shared<Update>,
     pub verdict: Verdict,
     pub version: u64,
+}
+
+impl Entry {
+    /// The same entry, by one more link to its update.
+    pub fn copy(&self) -> Result<Entry, NoMemory>
+        ensures same { IfOk result (λ copy. copy ≡ self.now) }
+    {
+        Ok(Entry {
+            caller: self.caller,
+            seq: self.seq,
+            update: self.update.share()?,
+            verdict: self.verdict,
+            version: self.version,
+        })
+    }
 }
 
 /// Whether a round settled a whole run of submissions, or the first of a run that didn't fit.
@@ -27,6 +45,29 @@ pub type EntryList = ItemList<Entry>;
 pub struct Round {
     pub kind: RoundKind,
     pub entries: EntryList,
+}
+
+impl Round {
+    /// The same round: its list is copied, and each entry by one more link to its update.
+    pub fn copy(&self, alloc: Global) -> Result<Round, NoMemory>
+        ensures same { IfOk result (λ copy. copy ≡ self.now) }
+    {
+        let entries = copy_entries(alloc, self.entries.as_slice())?;
+        Ok(Round {
+            kind: self.kind,
+            entries,
+        })
+    }
+}
+
+fn copy_entries(alloc: Global, entries: &[Entry]) -> Result<EntryList, NoMemory>
+    ensures { IfOk result (λ copy. copy ≡ entries.now) }
+{
+    let mut copy = EntryList::new(alloc);
+    for entry in entries {
+        copy.push(entry.copy()?)?;
+    }
+    Ok(copy)
 }
 
 pub type RoundList = ItemList<Round>;

@@ -17,11 +17,14 @@ mod reply;
 mod verdict;
 mod via;
 
-pub use act::{Act, Submission, Update};
+pub use act::{Act, ActList, Submission, Update};
 pub use addrs::AddrList;
 pub use journal::{Entry, EntryList, Round, RoundKind, RoundList};
 pub use key::{NeighborKey, RibKey, compare_neighbor_keys, compare_rib_keys};
-pub use laws::short_chains_reach_all;
+pub use laws::{
+    effects_are_on_touched_keys, entries_touch_as_their_updates, short_chains_reach_all,
+    touched_keys_add_up,
+};
 pub use look::{Best, BestRoutes, Lookup, Resolved, Resolver};
 pub use query::Query;
 pub use record::{FibEntry, IntfRec, MacRec, NeighborRec, PortRec, RouteRec, Totals, VlanRec};

@@ -5,7 +5,7 @@ ghost use Rattle.keyed.specs.Keyed.{at};
 ghost use Rattle.switch_model.specs.BestRoute.{best};
 ghost use Rattle.switch_model.specs.Facts.{intf_of_vlan, vlan_used, port_used, has_neighbor, overlaps_other, orphans};
 ghost use Rattle.switch_model.specs.Fib.{fib};
-ghost use Rattle.switch_model.specs.Looking.{best_route, entry_of, key_after};
+ghost use Rattle.switch_model.specs.Looking.{best_route, resolved_entry, key_after};
 ghost use Rattle.switch_model.specs.LongestMatch.{best_keys, longest_match};
 ghost use Rattle.switch_model.specs.PlainState.{PlainState, Rib, vlan_at, port_at, intf_at, mac_at, neighbor_at};
 
@@ -109,5 +109,5 @@ pub trait Resolver {
 
     /// What becomes of packets to the prefix.
     fn resolve(&self, alloc: Global, vrf: Vrf, prefix: &Prefix) -> Result<Resolved, NoMemory>
-        ensures { IfOk result (λ found. entry_of found ≡ fib (rib self.now) vrf prefix.now) };
+        ensures { IfOk result (λ found. resolved_entry found ≡ fib (rib self.now) vrf prefix.now) };
 }

@@ -1,6 +1,8 @@
 // What the state keeps under each key.
+ghost use Rattle.std.specs.Prelude.{◌≡◌, IfOk};
+
 use crate::addrs::AddrList;
-use net_types::{HopSet, Intf, Mac, Port, Vlan, VlanName, Vrf};
+use net_types::{HopSet, Intf, Mac, NoMemory, Port, Vlan, VlanName, Vrf};
 
 #[derive(Debug, PartialEq, Eq, Drop)]
 pub struct VlanRec {
@@ -45,6 +47,22 @@ pub enum RouteRec {
     Discard,
 }
 
+impl RouteRec {
+    /// The same route, by one more link to its hops.
+    pub fn copy(&self) -> Result<RouteRec, NoMemory>
+        ensures same { IfOk result (λ copy. copy ≡ self.now) }
+    {
+        match self {
+            RouteRec::Hops(hops) => {
+                let hops = hops.copy()?;
+                Ok(RouteRec::Hops(hops))
+            }
+            RouteRec::ToCpu => Ok(RouteRec::ToCpu),
+            RouteRec::Discard => Ok(RouteRec::Discard),
+        }
+    }
+}
+
 /// An entry of the forwarding information base: what becomes of packets to a prefix once its best
 /// route's next hops have been followed to their ends.
 #[derive(Debug, PartialEq, Eq, Drop)]
@@ -55,6 +73,23 @@ pub enum FibEntry {
     Forward(HopSet),
     ToCpu,
     Discard,
+}
+
+impl FibEntry {
+    /// The same entry, by one more link to its hops.
+    pub fn copy(&self) -> Result<FibEntry, NoMemory>
+        ensures same { IfOk result (λ copy. copy ≡ self.now) }
+    {
+        match self {
+            FibEntry::Connected(intf) => Ok(FibEntry::Connected(*intf)),
+            FibEntry::Forward(hops) => {
+                let hops = hops.copy()?;
+                Ok(FibEntry::Forward(hops))
+            }
+            FibEntry::ToCpu => Ok(FibEntry::ToCpu),
+            FibEntry::Discard => Ok(FibEntry::Discard),
+        }
+    }
 }
 
 /// How many entries each part of the state has. A count past the last number of its type stands

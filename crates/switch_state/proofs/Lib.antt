@@ -5,3 +5,6 @@ pub mod Following
 pub mod Neighbors
 pub mod Parts
 pub mod Storing
+pub mod OnPaths
+pub mod Ordered
+pub mod Indexed

@@ -4,3 +4,4 @@ pub mod Follows
 pub mod Edit
 pub mod EditKeys
 pub mod Valid
+pub mod Paths

@@ -1,10 +1,12 @@
 -- What holds of every state.
-use Rattle.std.specs.Prelude.{ℕ, All}
+use Rattle.std.specs.Prelude.{◌≡◌, ℕ, All}
 use Rattle.std.specs.Ordering.{nat_cmp}
 use Rattle.keyed.specs.Keyed.{Ascends}
 use Rattle.node_map.specs.Follows.{IsMadeBy}
 use Rattle.node_map.specs.Map.{MapView}
-use Rattle.state_keys.specs.PartKeys.{IsVlanNumber, IsPortNumber, IsIntfNumber, IsStationNumber, IsArpNumber, IsNdpNumber, IsRibNumber, IsFibNumber}
+use Rattle.state_keys.specs.PartKeys.{IsVlanNumber, IsPortNumber, IsIntfNumber, IsStationNumber, IsArpNumber, IsNdpNumber, IsRibNumber, IsFibNumber, intf_of}
+use Rattle.state_index.specs.IntfIndex.{IndexView, indexed}
+use Rattle.state_scan.specs.Listed.{listed}
 use Rattle.switch_state.specs.StateView.{StateView}
 
 -- the map was made by the version, and its keys are numbers of the part's keys, in order
@@ -23,3 +25,8 @@ pub record IsState (s : StateView) : Type 0 where
   pub ndps : IsPart IsNdpNumber s.version s.ndps
   pub routes : IsPart IsRibNumber s.version s.routes
   pub fibs : IsPart IsFibNumber s.version s.fibs
+
+-- a state with what it keeps beside its parts: the indexes are those of its interfaces
+pub record IsKept (s : StateView) (index : IndexView) : Type 0 where
+  pub parts : IsState s
+  pub index_is : index ≡ indexed (listed intf_of s.intfs.entries)

@@ -3,21 +3,25 @@ ghost use Rattle.std.specs.Prelude.{◌≡◌, ◌<◌, ◌≤◌, IfOk, OnErr, 
 ghost use Rattle.std.specs.Ordering.{nat_cmp};
 ghost use Rattle.keyed.specs.Keyed.{put, without};
 ghost use Rattle.net_types.specs.KeyOrder.{l2_cmp, route_cmp};
+ghost use Rattle.switch_model.specs.PlainState.{ArePartsInOrder};
 ghost use Rattle.switch_model.specs.StateKeys.{neighbor_cmp, rib_cmp};
 ghost use Rattle.state_keys.specs.PartKeys.{family, vlan_number, port_number, intf_number, station_number, neighbor_number, rib_number, fib_number, IsStation, IsArp, IsNdp, IsRib, IsFib, IsVlanNumber, IsPortNumber, IsIntfNumber, IsStationNumber, IsArpNumber, IsNdpNumber, IsRibNumber, IsFibNumber};
-ghost use Rattle.switch_state.specs.Edit.{IsCut, IsPut};
+ghost use Rattle.subnet_index.specs.SubnetList.{subnets_in};
+ghost use Rattle.switch_state.specs.Edit.{IsCut, IsEdit, IsPut};
 ghost use Rattle.switch_state.specs.EditKeys.{station_key, neighbor_key, route_key, prefix_key};
 ghost use Rattle.switch_state.specs.Follows.{Follows};
 ghost use Rattle.switch_state.specs.Plain.{fib_entries, plain};
-ghost use Rattle.switch_state.specs.Valid.{IsPart};
+ghost use Rattle.switch_state.specs.Valid.{IsPart, IsState};
 
 use crate::state::SwitchState;
 use net_types::{Client, Intf, Ip, L2Key, Mac, NoMemory, Port, Prefix, RouteKey, Vlan, Vrf};
 use node_core::Forge;
 use node_map::{NodeKey, NodeMap};
 use state_keys::{intf_key, port_key, vlan_key};
+use state_scan::record_under;
 use std::alloc::Global;
 use std::marker::Model;
+use subnet_index::Subnets;
 use switch_model::{
     FibEntry, IntfRec, MacRec, NeighborKey, NeighborRec, PortRec, RibKey, RouteRec, VlanRec,
 };
@@ -72,6 +76,25 @@ impl StateEdit {
         ensures { result.now ≡ self.now.state }
     {
         &self.state
+    }
+
+    /// The version at which the edit makes its nodes, and that of the state that it has come to.
+    pub fn version(&self) -> u64
+        ensures { result ≡ self.now.state.version }
+    {
+        self.state.version()
+    }
+
+    /// What holds of every edit: at a version past its base's it follows its base part by part. It
+    /// does nothing when it runs.
+    pub fn shape(&self)
+        ensures edit { IsEdit self.now }
+        ensures base { IsState self.now.base }
+        ensures state { IsState self.now.state }
+        ensures order { ArePartsInOrder (plain self.now.state) }
+    {
+        self.base.shape();
+        self.state.shape();
     }
 
     /// The edited state, at the edit's version. Where that is past the base's version, the state
@@ -140,6 +163,13 @@ impl StateEdit {
         self.state.routes()
     }
 
+    /// The subnets of the interfaces, by VRF and prefix.
+    pub fn subnets(&self) -> &Subnets
+        ensures { result.now ≡ subnets_in (plain self.now.state).intfs }
+    {
+        self.state.subnets()
+    }
+
     /// The entries of the FIB, by VRF and prefix.
     pub fn fibs(&self) -> &NodeMap<FibEntry>
         ensures map { result.now ≡ self.now.state.fibs }
@@ -206,8 +236,13 @@ impl StateEdit {
         ensures others { self.new ≡ record self.old { state = record self.old.state { intfs = self.new.state.intfs } } }
         ensures err { OnErr result (self.new ≡ self.old) }
     {
+        let old = record_under(self.state.intfs(), &intf_key(key));
+        let index = self
+            .state
+            .index()
+            .change(&self.forge, key, old, Some(&rec))?;
         let intfs = self.state.intfs().put(&self.forge, intf_key(key), rec)?;
-        self.state.set_intfs(intfs);
+        self.state.set_intfs(intfs, index);
         Ok(())
     }
 
@@ -218,8 +253,10 @@ impl StateEdit {
         ensures others { self.new ≡ record self.old { state = record self.old.state { intfs = self.new.state.intfs } } }
         ensures err { OnErr result (self.new ≡ self.old) }
     {
+        let old = record_under(self.state.intfs(), &intf_key(key));
+        let index = self.state.index().change(&self.forge, key, old, None)?;
         let intfs = self.state.intfs().without(&self.forge, &intf_key(key))?;
-        self.state.set_intfs(intfs);
+        self.state.set_intfs(intfs, index);
         Ok(())
     }
 

@@ -3,14 +3,9 @@
 
 mod delta;
 mod edit;
-mod laws;
 mod look;
 mod state;
 
 pub use delta::StateDelta;
 pub use edit::StateEdit;
-pub use laws::{follows_itself, follows_on};
 pub use state::SwitchState;
-
-#[cfg(test)]
-mod tests;

@@ -1,16 +1,25 @@
 // The state of the switch, shared and never changed.
 ghost use Rattle.std.specs.Prelude.{◌≡◌, ◌≤◌, IfOk};
-ghost use Rattle.state_keys.specs.PartKeys.{IsVlanNumber, IsPortNumber, IsIntfNumber, IsStationNumber, IsArpNumber, IsNdpNumber, IsRibNumber, IsFibNumber};
+ghost use Rattle.state_keys.specs.PartKeys.{IsVlanNumber, IsPortNumber, IsIntfNumber, IsStationNumber, IsArpNumber, IsNdpNumber, IsRibNumber, IsFibNumber, intf_of};
+ghost use Rattle.state_index.specs.IntfIndex.{indexed};
+ghost use Rattle.state_scan.specs.Listed.{listed};
+ghost use Rattle.subnet_index.specs.SubnetList.{subnets_in};
+ghost use Rattle.switch_model.specs.PlainState.{ArePartsInOrder};
+ghost use Rattle.switch_model.specs.Sound.{IsSound};
+ghost use Rattle.switch_state.specs.Plain.{plain};
 ghost use Rattle.switch_state.specs.StateView.{nothing};
 ghost use Rattle.switch_state.specs.Valid.{IsPart, IsState};
 
 use net_types::NoMemory;
 use node_map::NodeMap;
+use state_index::IntfIndex;
 use std::marker::Model;
+use subnet_index::Subnets;
 use switch_model::{FibEntry, IntfRec, MacRec, NeighborRec, PortRec, RouteRec, VlanRec};
 
 /// A state of the switch: a version, and a persistent map for each part. It is shared and never
-/// changed. A later state is made by an edit, and shares all that the edit left alone.
+/// changed. A later state is made by an edit, and shares all that the edit left alone. Beside the
+/// interfaces it keeps their subnets, and they themselves by VLAN.
 #[derive(Drop)]
 pub struct SwitchState {
     version: u64,
@@ -22,17 +31,18 @@ pub struct SwitchState {
     ndps: NodeMap<NeighborRec>,
     routes: NodeMap<RouteRec>,
     fibs: NodeMap<FibEntry>,
+    index: IntfIndex,
 }
 
 impl Model for SwitchState {
     ghost use Rattle.switch_state.specs.StateView.{StateView};
-    ghost use Rattle.switch_state.specs.Valid.{IsState};
+    ghost use Rattle.switch_state.specs.Valid.{IsKept};
 
     ghost Value = { StateView };
 
     ghost view = { λ s. record { version = s.version; vlans = s.vlans; ports = s.ports; intfs = s.intfs; macs = s.macs; arps = s.arps; ndps = s.ndps; routes = s.routes; fibs = s.fibs } };
 
-    ghost invariant = { λ s. IsState (record { version = s.version; vlans = s.vlans; ports = s.ports; intfs = s.intfs; macs = s.macs; arps = s.arps; ndps = s.ndps; routes = s.routes; fibs = s.fibs }) };
+    ghost invariant = { λ s. IsKept (record { version = s.version; vlans = s.vlans; ports = s.ports; intfs = s.intfs; macs = s.macs; arps = s.arps; ndps = s.ndps; routes = s.routes; fibs = s.fibs }) s.index };
 }
 
 impl SwitchState {
@@ -40,6 +50,7 @@ impl SwitchState {
     pub fn empty() -> SwitchState
         ensures state { result ≡ nothing }
         ensures version { result.version ≡ 0 }
+        ensures sound { IsSound (plain result) }
     {
         SwitchState {
             version: 0,
@@ -51,6 +62,7 @@ impl SwitchState {
             ndps: NodeMap::new(),
             routes: NodeMap::new(),
             fibs: NodeMap::new(),
+            index: IntfIndex::new(),
         }
     }
 
@@ -70,7 +82,8 @@ impl SwitchState {
 
     /// What holds of every state. It does nothing when it runs.
     pub fn shape(&self)
-        ensures { IsState self.now }
+        ensures state { IsState self.now }
+        ensures order { ArePartsInOrder (plain self.now) }
     {
         let _ = &self.version;
     }
@@ -139,6 +152,20 @@ impl SwitchState {
         &self.fibs
     }
 
+    /// The subnets of the interfaces, by VRF and prefix.
+    pub fn subnets(&self) -> &Subnets
+        ensures { result.now ≡ subnets_in (plain self.now).intfs }
+    {
+        self.index().subnets()
+    }
+
+    // What is kept beside the interfaces.
+    pub(crate) fn index(&self) -> &IntfIndex
+        ensures { result.now ≡ indexed (plain self.now).intfs }
+    {
+        &self.index
+    }
+
     // The same parts at a version that isn't before the state's.
     pub(crate) fn share_at(&self, version: u64) -> Result<SwitchState, NoMemory>
         requires { self.now.version ≤ version }
@@ -154,6 +181,7 @@ impl SwitchState {
             ndps: self.ndps.share()?,
             routes: self.routes.share()?,
             fibs: self.fibs.share()?,
+            index: self.index.share()?,
         })
     }
 
@@ -171,11 +199,13 @@ impl SwitchState {
         self.ports = ports;
     }
 
-    pub(crate) fn set_intfs(&mut self, intfs: NodeMap<IntfRec>)
-        requires { IsPart IsIntfNumber self.old.version intfs }
+    pub(crate) fn set_intfs(&mut self, intfs: NodeMap<IntfRec>, index: IntfIndex)
+        requires part { IsPart IsIntfNumber self.old.version intfs }
+        requires index { index ≡ indexed (listed intf_of intfs.entries) }
         ensures { self.new ≡ record self.old { intfs = intfs } }
     {
         self.intfs = intfs;
+        self.index = index;
     }
 
     pub(crate) fn set_macs(&mut self, macs: NodeMap<MacRec>)

@@ -1,9 +1,9 @@
 -- What the last seat knows, said of the passes that were handed in.
-use Rattle.std.proofs.Common.{◌≡◌, ◌⊎◌, ℕ, zero, suc, ◌+◌, ◌<◌, ◌≤◌, eqb, eqb-true, eq-eqb, Bool, true, false, List, [], ◌∷◌, ◌++◌, length, map, get_or, slice_get, Some, Contains, All, EachIndex, refl, sym, ap, ◌∙◌, subst, inl, inr, ⊎_elim, arith, append_assoc, if◌then◌else◌}
+use Rattle.std.proofs.Common.{◌≡◌, ◌⊎◌, ℕ, zero, suc, ◌+◌, ◌<◌, ◌≤◌, eqb, eqb-true, eq-eqb, Bool, true, false, List, [], ◌∷◌, ◌++◌, length, map, get_or, slice_get, Some, Contains, All, EachIndex, refl, sym, ap, ◌∙◌, subst, inl, inr, ⊎_elim, arith, if◌then◌else◌}
 use Rattle.std.proofs.lemmas.Bool.{cases_lt}
 use Rattle.std.proofs.lemmas.List.{length-map}
 use mathlib.Core.Option.{some, some-injective, some-ne-none}
-use mathlib.Core.List.{IsPrefix}
+use Rattle.keyed.specs.Prefix.{IsPrefix}
 use lib.ListN.{get_elem?}
 use Rattle.atomic_table.proofs.Lists.{at_map}
 use Rattle.turn_book.specs.declared.view.View.{View}
@@ -52,9 +52,6 @@ module _ {A : Type 0} where
   prefix_last [] x (z ∷ zs) p = let e : z ≡ x = cc (p.1) in ap some e
   prefix_last (y ∷ ys) x [] p = absurd (cc (p.1))
   prefix_last (y ∷ ys) x (z ∷ zs) p = prefix_last ys x zs (p.0, cc (p.1))
-
-  pub prefix_shorter : (ys zs xs : List A) → IsPrefix (ys ++ zs) xs → IsPrefix ys xs
-  prefix_shorter ys zs xs p = (zs ++ p.0, sym (append_assoc ys zs p.0) ∙ p.1)
 
 -- x stands in the list
 abbrev Has : {X : Type 0} → List X → X → Type 0

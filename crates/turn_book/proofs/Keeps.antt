@@ -5,6 +5,7 @@ use mathlib.Core.Option.{Option, some, some-injective, some-ne-none}
 use lib.ListN.{get_elem?}
 use Rattle.atomic_table.specs.Table.{State, Me, opening}
 use Rattle.atomic_table.proofs.Lists.{at_set, set_here}
+use Rattle.keyed.specs.Prefix.{prefix_self}
 use Rattle.turn_book.specs.declared.view.View.{View}
 use Rattle.turn_book.specs.declared.view.Held.{Held}
 use Rattle.turn_book.specs.declared.view.Held.TheVariants.{Desk, Chip}
@@ -12,7 +13,7 @@ use Rattle.turn_book.specs.Lists.{own, AreNumbered, rounds_of, strip, AscendWith
 use Rattle.turn_book.specs.Means.{Means}
 use Rattle.turn_book.specs.Rule.{Where, home, out, word_of, turn_of, World, Fits, DeskIs, ChipIs, Lists, Kept, newcomer}
 use Rattle.turn_book.specs.Steps.{Agree}
-use Rattle.turn_book.proofs.Own.{prefix_self, at_below, own_prefix, rounds_prefix, own_sole, rounds_sole, rounds_ascend}
+use Rattle.turn_book.proofs.Own.{at_below, own_prefix, rounds_prefix, own_sole, rounds_sole, rounds_ascend}
 
 module _ {V W G S R : Type 0} (m : Means V W G S R) where
   abbrev D : Type 0

@@ -2,7 +2,7 @@
 use Rattle.std.proofs.Common.{◌≡◌, ◌≢◌, ℕ, ◌+◌, ◌%◌, ◌^◌, ◌<◌, ◌≤◌, eqb-true, true, false, List, [], ◌∷◌, ◌++◌, length, get_or, set, refl, sym, ap, ◌∙◌, subst, arith, length-append}
 use mathlib.Core.Logic.{dite}
 use mathlib.Core.Option.{none}
-use mathlib.Core.List.{IsPrefix}
+use Rattle.keyed.specs.Prefix.{IsPrefix, prefix_self, prefix_longer, prefix_length}
 use native.Mathlib.Decide.{ℕ_discrete}
 use Rattle.atomic_table.specs.Table.{State, Me, step, keeps, stepped, Allows}
 use Rattle.turn_book.specs.declared.view.View.{View}
@@ -12,7 +12,7 @@ use Rattle.turn_book.specs.Lists.{own, AreNumbered, rounds_of, strip}
 use Rattle.turn_book.specs.Means.{Means}
 use Rattle.turn_book.specs.Rule.{Where, out, word_of, turn_of, World, EndedOk, DeskIs, ChipIs, Kept}
 use Rattle.turn_book.specs.Steps.{counted, settled, Counts, CountsRound}
-use Rattle.turn_book.proofs.Own.{prefix_self, prefix_longer, prefix_length, own_grows, own_stays, numbered_grow, strip_grows, rounds_grow, rounds_stay}
+use Rattle.turn_book.proofs.Own.{own_grows, own_stays, numbered_grow, strip_grows, rounds_grow, rounds_stay}
 use Rattle.turn_book.proofs.Keeps.{moves, chip_same, has_turn, inside, agree, here}
 
 module _ {V W G S R : Type 0} (m : Means V W G S R) where

@@ -1,7 +1,7 @@
 -- The steps on the desk keep the rule.
 use Rattle.std.proofs.Common.{◌≡◌, ◌≢◌, ℕ, eq-eqb, ne_eqb, true, false, List, [], ◌∷◌, length, get_or, set, refl, sym, ap, ◌∙◌, subst, arith, Some, unwrap_or}
 use mathlib.Core.Option.{Option, some, none}
-use mathlib.Core.List.{IsPrefix}
+use Rattle.keyed.specs.Prefix.{IsPrefix, prefix_self}
 use lib.ListN.{get_elem?}
 use Rattle.atomic_table.specs.Table.{State, Me, step, Act, keeps, takes, gives, Valid, carried_after, stepped, Allows}
 use Rattle.turn_book.specs.declared.view.View.{View}
@@ -11,7 +11,6 @@ use Rattle.turn_book.specs.Lists.{own, strip}
 use Rattle.turn_book.specs.Means.{Means}
 use Rattle.turn_book.specs.Rule.{Where, home, out, word_of, turn_of, World, Live, Fits, DeskIs, Kept}
 use Rattle.turn_book.specs.Steps.{took, missed, gave, Takes, Puts}
-use Rattle.turn_book.proofs.Own.{prefix_self}
 use Rattle.turn_book.proofs.Keeps.{moves, fits_where, has_turn, inside, agree, here}
 
 module _ {V W G S R : Type 0} (m : Means V W G S R) where

@@ -7,6 +7,7 @@ use native.Mathlib.Decide.{ℕ_discrete}
 use lib.ListN.{get_elem?}
 use Rattle.atomic_table.specs.Table.{State, Me, Splits, Joins}
 use Rattle.atomic_table.proofs.Lists.{at_set, set_else}
+use Rattle.keyed.specs.Prefix.{prefix_none}
 use Rattle.turn_book.specs.declared.view.View.{View}
 use Rattle.turn_book.specs.declared.view.Ended.{Ended}
 use Rattle.turn_book.specs.declared.view.Held.{Held}
@@ -14,7 +15,7 @@ use Rattle.turn_book.specs.Lists.{own, rounds_of}
 use Rattle.turn_book.specs.Means.{Means}
 use Rattle.turn_book.specs.Rule.{Where, home, out, word_of, turn_of, World, EndedOk, Fits, DeskIs, ChipIs, Kept, newcomer, nobody, marked}
 use Rattle.turn_book.specs.Steps.{split_off, ended_of, took_in}
-use Rattle.turn_book.proofs.Own.{prefix_none, at_end}
+use Rattle.turn_book.proofs.Own.{at_end}
 use Rattle.turn_book.proofs.Keeps.{inside}
 
 module _ {V W G S R : Type 0} (m : Means V W G S R) where

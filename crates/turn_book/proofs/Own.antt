@@ -1,5 +1,5 @@
 -- Lists of one caller's submissions and rounds, and beginnings of a list.
-use Rattle.std.proofs.Common.{◌≡◌, ◌≢◌, ◌⊎◌, ℕ, zero, suc, ◌+◌, ◌<◌, ◌≤◌, eqb, eq-eqb, ne_eqb, Bool, true, false, List, [], ◌∷◌, ◌++◌, length, refl, sym, ap, ◌∙◌, inl, inr, ⊎_elim, arith, length-append, append_assoc, if◌then◌else◌}
+use Rattle.std.proofs.Common.{◌≡◌, ◌≢◌, ◌⊎◌, ℕ, zero, suc, ◌+◌, ◌<◌, ◌≤◌, eqb, eq-eqb, ne_eqb, Bool, true, false, List, [], ◌∷◌, ◌++◌, length, refl, sym, ap, ◌∙◌, inl, inr, ⊎_elim, arith, length-append, if◌then◌else◌}
 use Rattle.std.proofs.lemmas.List.{append-nil, map_push}
 use Rattle.std.proofs.lemmas.List.Elements.{filter-append}
 use Rattle.std.specs.List.{range_with_len}
@@ -7,23 +7,11 @@ use Rattle.std.proofs.lemmas.List.Concat.{flat_map-append}
 use mathlib.Core.Logic.{dite}
 use native.Mathlib.Decide.{ℕ_discrete}
 use mathlib.Core.Option.{some, some-injective, some-ne-none}
-use mathlib.Core.List.{IsPrefix}
+use Rattle.keyed.specs.Prefix.{IsPrefix}
 use lib.ListN.{get_elem?}
 use Rattle.turn_book.specs.Lists.{own, AreNumbered, rounds_of, strip, AscendWithin}
 
 module _ {A : Type 0} where
-  pub prefix_self : (xs : List A) → IsPrefix xs xs
-  prefix_self xs = ([], append-nil xs)
-
-  pub prefix_none : (xs : List A) → IsPrefix [] xs
-  prefix_none xs = (xs, refl)
-
-  pub prefix_longer : (xs ys zs : List A) → IsPrefix xs ys → IsPrefix xs (ys ++ zs)
-  prefix_longer xs ys zs p = (p.0 ++ zs, sym (append_assoc xs p.0 zs) ∙ ap (λ w. w ++ zs) p.1)
-
-  pub prefix_length : (xs ys : List A) → IsPrefix xs ys → length xs ≤ length ys
-  prefix_length xs ys p = omega (arith, sym (ap length p.1) ∙ length-append xs p.0)
-
   pub at_below : (l : List A) (i : ℕ) (a : A) → get_elem? l i ≡ some a → i < length l
   at_below [] i a e = absurd (some-ne-none a (sym e))
   at_below (x ∷ xs) zero a e = omega arith
@@ -61,9 +49,16 @@ module _ {S : Type 0} (by : S → ℕ) where
   pub own_stays : (i : ℕ) (xs : List S) (x : S) → by x ≢ i → own by i (xs ++ x ∷ []) ≡ own by i xs
   own_stays i xs x e = own-append i xs (x ∷ []) ∙ (ap (λ w. own by i xs ++ w) (own_other i x e) ∙ append-nil (own by i xs))
 
+  -- a caller has no more than all
+  pub own_fewer : (i : ℕ) (xs : List S) → length (own by i xs) ≤ length xs
+  own_fewer i [] = omega arith
+  own_fewer i (x ∷ xs) = dite (ℕ_discrete (by x) i)
+      (λ e. omega (arith, ap (λ (b : Bool). length (if b then x ∷ own by i xs else own by i xs)) (eq-eqb (by x) i e), own_fewer i xs))
+      (λ e. omega (arith, ap (λ (b : Bool). length (if b then x ∷ own by i xs else own by i xs)) (ne_eqb (by x) i e), own_fewer i xs))
+
   -- a beginning has none of a caller of which the whole has none
   pub own_prefix : (i : ℕ) (xs ys : List S) → IsPrefix xs ys → own by i ys ≡ [] → own by i xs ≡ []
-  own_prefix i xs ys p e = append_empty (own by i xs) (own by i p.0) (sym (own-append i xs p.0) ∙ (ap (own by i) p.1 ∙ e))
+  own_prefix i xs ys p e = append_empty (own by i xs) (own by i p.0) (sym (own-append i xs p.0) ∙ (ap (own by i) (sym p.1) ∙ e))
 
   -- where no other caller has one, all are of caller 0
   pub own_sole : (xs : List S) → ((i : ℕ) → 0 < i → own by i xs ≡ []) → own by 0 xs ≡ xs
@@ -103,7 +98,7 @@ pub rounds_stay : (i j : ℕ) (gs : List ℕ) → j ≢ i → rounds_of i 0 (gs 
 rounds_stay i j gs e = rounds_of-append i 0 gs (j ∷ []) ∙ (ap (λ (b : Bool). rounds_of i 0 gs ++ (if b then (0 + length gs) ∷ [] else [])) (ne_eqb j i e) ∙ append-nil (rounds_of i 0 gs))
 
 pub rounds_prefix : (i : ℕ) (gs hs : List ℕ) → IsPrefix gs hs → rounds_of i 0 hs ≡ [] → rounds_of i 0 gs ≡ []
-rounds_prefix i gs hs p e = append_empty (rounds_of i 0 gs) (rounds_of i (0 + length gs) p.0) (sym (rounds_of-append i 0 gs p.0) ∙ (ap (rounds_of i 0) p.1 ∙ e))
+rounds_prefix i gs hs p e = append_empty (rounds_of i 0 gs) (rounds_of i (0 + length gs) p.0) (sym (rounds_of-append i 0 gs p.0) ∙ (ap (rounds_of i 0) (sym p.1) ∙ e))
 
 -- where no other caller has one, caller 0 has all
 pub rounds_sole : (n : ℕ) (gs : List ℕ) → ((i : ℕ) → 0 < i → rounds_of i n gs ≡ []) → rounds_of 0 n gs ≡ range_with_len n (length gs)

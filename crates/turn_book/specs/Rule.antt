@@ -2,7 +2,7 @@
 use Rattle.std.specs.Prelude.{◌≡◌, ℕ, ◌^◌, ◌<◌, ◌≤◌, ◌==◌, Bool, true, false, List, [], ◌∷◌, length, Some, None, if◌then◌else◌}
 use Rattle.std.specs.Prelude as Prelude
 use mathlib.Core.Option.{Option, some, none}
-use mathlib.Core.List.{IsPrefix}
+use Rattle.keyed.specs.Prefix.{IsPrefix}
 use lib.ListN.{get_elem?}
 use Rattle.atomic_table.specs.Table.{State}
 use Rattle.turn_book.specs.declared.view.View.{View}

@@ -1,7 +1,7 @@
 -- What each step tells the seat that takes it.
 use Rattle.std.specs.Prelude.{◌≡◌, ◌≢◌, ◌⊎◌, ℕ, ◌+◌, ◌<◌, ◌≤◌, Bool, true, false, List, [], ◌∷◌, ◌++◌, length, Some}
 use mathlib.Core.Option.{some}
-use mathlib.Core.List.{IsPrefix}
+use Rattle.keyed.specs.Prefix.{IsPrefix}
 use lib.ListN.{get_elem?}
 use Rattle.atomic_table.specs.Table.{Me, Step, rest}
 use Rattle.atomic_table.specs.Seated.{TableId}
@@ -38,10 +38,12 @@ module _ {G S R : Type 0} where
   Agree caller sequence d = ListsAgree caller sequence d.callers d.number d.seen d.mine (length d.jseen) d.rounds
 
   -- What is so of a pass's seat between two calls.
-  pub record IsPassSeat {V W : Type 0} (caller sequence : S → ℕ) (me : Me (Held V W) (View G S R)) : Type 0 where
+  pub record IsPassSeat {V W : Type 0} (caller sequence : S → ℕ) (number submitted : ℕ) (me : Me (Held V W) (View G S R)) : Type 0 where
     pub unspent : me.0.spent ≡ false
     pub hand : me.1 ≡ hand_of me.0.desk_turn me.0.chip_turn
     pub none_ended : me.0.ended ≡ []
+    pub number_is : me.0.number ≡ number
+    pub submitted_is : length me.0.mine ≡ submitted
     pub lists : Agree caller sequence me.0
 
   -- The desk was found, and stands for these lists.

@@ -1,4 +1,6 @@
 //! The book and its passes.
+ghost use Rattle.std.specs.Prelude.{◌≡◌, length};
+
 use crate::rule::TurnRule;
 use crate::value::{Settles, Stands};
 use crate::view::{About, Held, View};
@@ -39,7 +41,8 @@ impl<V: Stands, W: Settles<Ground = V::Ground, Sub = V::Sub, Round = V::Round>> 
     ghost invariant = { λ b. IsBookTable b.table.shared.table_id × (0 < b.table.shared.key.callers) };
 }
 
-/// What one caller has seen and done. It has no bytes: what it tells exists in proofs alone.
+/// What one caller has seen and done. At run time it knows its number and how many submissions it has counted; the rest
+/// of what it tells exists in proofs alone.
 ///
 /// Contracts see its book, its number among the callers, and:
 ///
@@ -51,6 +54,8 @@ impl<V: Stands, W: Settles<Ground = V::Ground, Sub = V::Sub, Round = V::Round>> 
 #[derive(Drop)]
 pub struct CallerPass<V: Stands, W: Settles<Ground = V::Ground, Sub = V::Sub, Round = V::Round>> {
     seat: Seat<Held<V, W>, View<V::Ground, V::Sub, V::Round>>,
+    number: u32,
+    submitted: u64,
 }
 
 impl<V: Stands, W: Settles<Ground = V::Ground, Sub = V::Sub, Round = V::Round>> Model
@@ -63,5 +68,21 @@ impl<V: Stands, W: Settles<Ground = V::Ground, Sub = V::Sub, Round = V::Round>> 
 
     ghost view = { λ p. pass_of p.seat.table_id p.seat.me.0 };
 
-    ghost invariant = { λ p. IsPassSeat V.caller V.sequence p.seat.me };
+    ghost invariant = { λ p. IsPassSeat V.caller V.sequence p.number p.submitted p.seat.me };
+}
+
+impl<V: Stands, W: Settles<Ground = V::Ground, Sub = V::Sub, Round = V::Round>> CallerPass<V, W> {
+    /// Its number among the callers, from 0 on.
+    pub fn number(&self) -> u32
+        ensures { result ≡ self.now.number }
+    {
+        self.number
+    }
+
+    /// How many submissions its caller has counted: the sequence number of the next one.
+    pub fn submitted(&self) -> u64
+        ensures { result ≡ length self.now.mine }
+    {
+        self.submitted
+    }
 }

@@ -1,9 +1,12 @@
 //! The steps of a seat on the table.
 ghost use Rattle.std.specs.Prelude.{◌≡◌, ℕ, ◌+◌, ◌^◌, ◌<◌, true, false, Some, ◌++◌, ◌∷◌, [], length, MatchOption};
-ghost use mathlib.Core.List.{IsPrefix};
+ghost use Rattle.keyed.specs.Prefix.{IsPrefix};
+ghost use mathlib.Core.Option.{none};
+ghost use Rattle.atomic_table.specs.Table.{step, Allows};
 ghost use Rattle.turn_book.specs.Lists.{strip};
 ghost use Rattle.turn_book.specs.Passes.{ListsAgree};
 ghost use Rattle.turn_book.specs.Means.{means};
+ghost use Rattle.turn_book.specs.Rule.{Kept};
 ghost use Rattle.turn_book.specs.Steps.{Agree, Taken, Found, Missed, IsBookTable, IsChip, hand_of, gave, counted, settled, took_chip, gave_chip};
 
 use crate::plays::{PutChip, PutDesk, Settle, Submit, TakeChip, TakeDesk, Told, Tries, Waiting};
@@ -12,9 +15,41 @@ use crate::rule::{
 };
 use crate::value::{Settles, Stands};
 use crate::view::{About, Held, View};
-use atomic_table::{Seat, Shared};
+use atomic_table::{Play, Seat, Shared};
 use std::marker::Brand;
 use std::sync::Wait;
+
+/// Sleeps while the word says that its value is away, until a `come_home` at that word. It may also return for no reason.
+fn sleep<V: Stands, W: Settles<Ground = V::Ground, Sub = V::Sub, Round = V::Round>, R: Wait>(
+    board: &Shared<Held<V, W>, View<V::Ground, V::Sub, V::Round>, About<V>, TurnRule>,
+    rt: &R,
+    word: usize,
+)
+    requires { word < board.now.table_id.words }
+{
+    board.park(rt, word, AWAY as u32);
+}
+
+/// Says in the word that its value, which the seat's hand gives back by this step, is home, and then wakes one that
+/// sleeps on the word. In this order: who finds the value away after the wake would sleep on.
+fn come_home<
+    V: Stands,
+    W: Settles<Ground = V::Ground, Sub = V::Sub, Round = V::Round>,
+    P: Play<Held<V, W>, View<V::Ground, V::Sub, V::Round>>,
+>(
+    board: &Shared<Held<V, W>, View<V::Ground, V::Sub, V::Round>, About<V>, TurnRule>,
+    seat: &mut Seat<Held<V, W>, View<V::Ground, V::Sub, V::Round>>,
+    word: usize,
+)
+    requires table { seat.old.table_id ≡ board.now.table_id }
+    requires word { word < board.now.table_id.words }
+    requires rule { Allows (Kept (means V.opening V.sent V.done V.caller V.sequence V.subs W.opening W.done) (V.opening board.now.key.desk.value) board.now.key.callers) board.now.table_id.slots seat.old.id seat.old.me word (λ _. 1) (λ _. P.then (step board.now.table_id.slots word 1 0 none) seat.old.me 1) }
+    ensures table { seat.new.table_id ≡ seat.old.table_id }
+    ensures home { P.then (step board.now.table_id.slots word 1 0 none) seat.old.me 1 seat.new.me }
+{
+    board.store::<P>(seat, word, HOME);
+    board.wake_one(word);
+}
 
 /// Takes the desk out, or finds it away. One exchange of the desk's word.
 pub(crate) fn attempt<
@@ -69,7 +104,7 @@ pub(crate) fn wait_for_desk<
         if let Some(v) = attempt::<V, W, Waiting>(board, seat) {
             return v;
         }
-        board.park(rt, DESK_WORD, AWAY as u32);
+        sleep(board, rt, DESK_WORD);
     }
     unreachable!()
 }
@@ -95,8 +130,7 @@ pub(crate) fn give_desk_back<
     ensures view { seat.new.me ≡ (gave seat.old.me.0, hand_of false seat.old.me.0.chip_turn) }
 {
     board.exchange(seat, DESK_SLOT, Held::Desk(v));
-    board.store::<PutDesk>(seat, DESK_WORD, HOME);
-    board.wake_one(DESK_WORD);
+    come_home::<V, W, PutDesk>(board, seat, DESK_WORD);
 }
 
 // `v` says what is counted, by `J`.
@@ -225,7 +259,7 @@ pub(crate) fn wait_for_chip<
                 _ => unreachable!(),
             }
         }
-        board.park(rt, CHIP_WORD, AWAY as u32);
+        sleep(board, rt, CHIP_WORD);
     }
     unreachable!()
 }
@@ -250,6 +284,5 @@ pub(crate) fn give_chip_back<
     ensures view { seat.new.me ≡ (gave_chip seat.old.me.0, []) }
 {
     board.exchange(seat, CHIP_SLOT, Held::Chip(w));
-    board.store::<PutChip>(seat, CHIP_WORD, HOME);
-    board.wake_one(CHIP_WORD);
+    come_home::<V, W, PutChip>(board, seat, CHIP_WORD);
 }

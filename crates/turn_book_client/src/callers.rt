@@ -1,10 +1,11 @@
 //! What one caller does.
-ghost use Rattle.std.specs.Prelude.{◌≡◌, ◌+◌, ◌<◌, ◌++◌, ◌∷◌, [], true, length, OnErr, OnOk, IfOk};
-ghost use mathlib.Core.List.{IsPrefix};
+ghost use Rattle.std.specs.Prelude.{◌≡◌, ◌⊎◌, ◌+◌, ◌<◌, ◌++◌, ◌∷◌, [], true, length, OnErr, OnOk, IfOk};
+ghost use Rattle.keyed.specs.Prefix.{IsPrefix};
 ghost use Rattle.turn_book.specs.Lists.{strip};
 ghost use Rattle.turn_book.specs.Passes.{IsPassOf, IsSameCaller};
 ghost use Rattle.turn_book.specs.Closing.{HoldsNothing};
 ghost use Rattle.turn_book_client.specs.Pairs.{subs_of};
+ghost use Rattle.turn_book_client.specs.Settling.{next_of, SettledOne, LeftFewerThanTwo};
 
 use crate::values::{Chip, Desk, Submission};
 use std::alloc::AllocError;
@@ -16,16 +17,13 @@ pub fn submit<R: Wait>(
     rt: &R,
     book: &TurnBook<Desk, Chip>,
     pass: &mut CallerPass<Desk, Chip>,
-    submission: Submission,
 ) -> Result<(), NoMemory>
     requires book { IsPassOf book.now pass.old }
     requires free { HoldsNothing pass.old }
-    requires caller { submission.caller ≡ pass.old.number }
-    requires sequence { submission.sequence ≡ length pass.old.mine }
     ensures book { IsPassOf book.now pass.new }
     ensures caller { IsSameCaller pass.old pass.new }
     ensures free { HoldsNothing pass.new }
-    ensures ok { OnOk result (pass.new.mine ≡ pass.old.mine ++ submission ∷ []) }
+    ensures ok { OnOk result (pass.new.mine ≡ pass.old.mine ++ next_of pass.old ∷ []) }
     ensures err { OnErr result (pass.new.mine ≡ pass.old.mine) }
     ensures rounds { pass.new.rounds ≡ pass.old.rounds }
 {
@@ -34,7 +32,10 @@ pub fn submit<R: Wait>(
         book.put(pass, desk);
         return Err(AllocError);
     }
-    desk.sent.push_reserved(submission);
+    desk.sent.push_reserved(Submission {
+        caller: pass.number(),
+        sequence: pass.submitted(),
+    });
     book.count_submission(pass, &desk);
     book.put(pass, desk);
     Ok(())
@@ -54,6 +55,7 @@ pub fn settle<R: Wait>(
     ensures free { HoldsNothing pass.new }
     ensures mine { pass.new.mine ≡ pass.old.mine }
     ensures ok { IfOk result (λ n. n ≡ length pass.new.jseen) }
+    ensures settled { OnOk result (SettledOne pass.old pass.new ⊎ LeftFewerThanTwo pass.old pass.new) }
     ensures err { OnErr result (pass.new.rounds ≡ pass.old.rounds) }
 {
     let mut chip = book.take_chip(rt, pass);
@@ -90,6 +92,7 @@ fn settle_next(
     ensures chip { chip.new.rounds.items ≡ pass.new.jseen }
     ensures desk_opening { desk.new.opening ≡ desk.old.opening }
     ensures chip_opening { chip.new.opening ≡ chip.old.opening }
+    ensures ok { OnOk result (SettledOne pass.old pass.new ⊎ LeftFewerThanTwo pass.old pass.new) }
     ensures err { OnErr result (pass.new.rounds ≡ pass.old.rounds) }
 {
     let Some(pair) = desk.next_pair() else {

@@ -11,6 +11,8 @@ use std::test::Fail;
 use std::thread::{Threads, join};
 use turn_book::{CallerPass, NoMemory, TurnBook};
 
+mod wakes;
+
 type Book = TurnBook<Desk, Chip>;
 
 type Pass = CallerPass<Desk, Chip>;
@@ -194,34 +196,10 @@ fn look_alone(book: &Book, pass: &mut Pass) -> usize
 fn run_alone<R: Wait>(rt: &R, alloc: Global) -> Result<(Desk, Chip, usize), NoMemory> {
     let (book, mut passes) = TurnBook::open(alloc, Desk::new(alloc, 7), Chip::new(alloc, 7), 1)?;
     let mut only = passes.remove(0);
-    submit(
-        rt,
-        &book,
-        &mut only,
-        Submission {
-            caller: 0,
-            sequence: 0,
-        },
-    )?;
-    submit(
-        rt,
-        &book,
-        &mut only,
-        Submission {
-            caller: 0,
-            sequence: 1,
-        },
-    )?;
+    submit(rt, &book, &mut only)?;
+    submit(rt, &book, &mut only)?;
     settle(rt, &book, &mut only)?;
-    submit(
-        rt,
-        &book,
-        &mut only,
-        Submission {
-            caller: 0,
-            sequence: 2,
-        },
-    )?;
+    submit(rt, &book, &mut only)?;
     let sent = look_alone(&book, &mut only);
     passes.push(only)?;
     let (desk, chip) = book.close(passes);

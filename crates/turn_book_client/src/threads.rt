@@ -1,10 +1,10 @@
 //! Callers on threads of their own.
-ghost use Rattle.std.specs.Prelude.{◌≡◌, ◌≤◌, [], length, IfOk};
+ghost use Rattle.std.specs.Prelude.{◌≡◌, ◌+◌, ◌≤◌, length, IfOk};
 ghost use Rattle.turn_book.specs.Passes.{IsPassOf, IsSameCaller};
 ghost use Rattle.turn_book.specs.Closing.{HoldsNothing};
 
 use crate::callers::{settle, submit};
-use crate::values::{Chip, Desk, Submission};
+use crate::values::{Chip, Desk};
 use std::sync::Wait;
 use std::thread;
 use std::thread::{Threads, join};
@@ -15,20 +15,17 @@ pub fn submit_all<R: Wait>(
     rt: &R,
     book: &TurnBook<Desk, Chip>,
     mut pass: CallerPass<Desk, Chip>,
-    caller: u32,
     count: u64,
 ) -> Result<CallerPass<Desk, Chip>, NoMemory>
     requires book { IsPassOf book.now pass }
     requires free { HoldsNothing pass }
-    requires caller { caller ≡ pass.number }
-    requires fresh { pass.mine ≡ [] }
     ensures book { IfOk result (λ p. IsPassOf book.now p) }
     ensures caller { IfOk result (λ p. IsSameCaller pass p) }
     ensures free { IfOk result (λ p. HoldsNothing p) }
-    ensures count { IfOk result (λ p. length p.mine ≡ count) }
+    ensures count { IfOk result (λ p. length p.mine ≡ length pass.mine + count) }
 {
-    for sequence in 0..count {
-        submit(rt, book, &mut pass, Submission { caller, sequence })?;
+    for _number in 0..count {
+        submit(rt, book, &mut pass)?;
     }
     Ok(pass)
 }
@@ -69,19 +66,15 @@ pub fn submit_from_two<R: Threads + Wait + Sync>(
     requires two { IsPassOf book.now two }
     requires one_free { HoldsNothing one }
     requires two_free { HoldsNothing two }
-    requires one_number { one.number ≡ 0 }
-    requires two_number { two.number ≡ 1 }
-    requires one_fresh { one.mine ≡ [] }
-    requires two_fresh { two.mine ≡ [] }
     ensures books { IfOk result (λ r. IsPassOf book.now r.0 × IsPassOf book.now r.1) }
     ensures callers { IfOk result (λ r. IsSameCaller one r.0 × IsSameCaller two r.1) }
     ensures free { IfOk result (λ r. HoldsNothing r.0 × HoldsNothing r.1) }
-    ensures counts { IfOk result (λ r. (length r.0.mine ≡ count) × (length r.1.mine ≡ count)) }
+    ensures counts { IfOk result (λ r. (length r.0.mine ≡ length one.mine + count) × (length r.1.mine ≡ length two.mine + count)) }
 {
     let (first, second) = join(
         rt,
-        || submit_all(rt, book, one, 0, count),
-        || submit_all(rt, book, two, 1, count),
+        || submit_all(rt, book, one, count),
+        || submit_all(rt, book, two, count),
     );
     Ok((first?, second?))
 }

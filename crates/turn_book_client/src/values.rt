@@ -1,6 +1,6 @@
 //! A desk and a chip side of plain lists.
-ghost use Rattle.std.specs.Prelude.{◌≡◌, ◌++◌, ◌∷◌, [], IfSome};
-ghost use mathlib.Core.List.{IsPrefix};
+ghost use Rattle.std.specs.Prelude.{◌≡◌, ◌+◌, ◌<◌, ◌++◌, ◌∷◌, [], length, IfSome, IfNone};
+ghost use Rattle.keyed.specs.Prefix.{IsPrefix};
 ghost use Rattle.turn_book.specs.Lists.{strip};
 ghost use Rattle.turn_book_client.specs.Pairs.{subs_of};
 
@@ -98,7 +98,8 @@ impl Desk {
     /// The round of the next two submissions that no round has settled, where there are two.
     pub fn next_pair(&self) -> Option<Pair>
         requires { IsPrefix (strip subs_of self.now.rounds.items) self.now.sent.items }
-        ensures { IfSome result (λ r. IsPrefix (strip subs_of (self.now.rounds.items ++ r ∷ [])) self.now.sent.items) }
+        ensures next { IfSome result (λ r. IsPrefix (strip subs_of (self.now.rounds.items ++ r ∷ [])) self.now.sent.items) }
+        ensures none { IfNone result (length self.now.sent.items < length (strip subs_of self.now.rounds.items) + 2) }
     {
         let at = 2 * self.rounds.len();
         if at + 1 >= self.sent.len() {

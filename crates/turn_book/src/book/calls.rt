@@ -1,6 +1,6 @@
 //! The calls of a caller, each with its pass. Each takes one atomic step of its kind.
 ghost use Rattle.std.specs.Prelude.{◌≡◌, ◌+◌, ◌<◌, ◌≤◌, ◌++◌, ◌∷◌, [], true, false, length, IfSome, IfNone};
-ghost use mathlib.Core.List.{IsPrefix};
+ghost use Rattle.keyed.specs.Prefix.{IsPrefix};
 ghost use Rattle.turn_book.specs.Lists.{own, strip};
 ghost use Rattle.turn_book.specs.Passes.{IsPassOf, IsSameCaller, IsConsistent, IsNextSubmission, IsNextRound};
 
@@ -93,7 +93,8 @@ impl<V: Stands, W: Settles<Ground = V::Ground, Sub = V::Sub, Round = V::Round>> 
         ensures caller { IsSameCaller pass.old pass.new }
         ensures lists { IsConsistent V.caller V.sequence pass.new }
     {
-        count_one_submission(&self.table.shared, &mut pass.seat, v)
+        count_one_submission(&self.table.shared, &mut pass.seat, v);
+        pass.submitted += 1;
     }
 
     /// Counts one round, which settles the next `k` submissions and for which desk and chip side stand already. This

@@ -1,6 +1,6 @@
 //! Closing a book.
 ghost use Rattle.std.specs.Prelude.{◌≡◌, ℕ, ◌<◌, ◌≤◌, true, false, [], length, All, EachIndex};
-ghost use mathlib.Core.List.{IsPrefix};
+ghost use Rattle.keyed.specs.Prefix.{IsPrefix};
 ghost use Rattle.turn_book.specs.Lists.{own, strip, AreNumbered};
 ghost use Rattle.turn_book.specs.Passes.{IsPassOf};
 ghost use Rattle.turn_book.specs.Closing.{HoldsNothing, HasEachCaller, IsCountedOnce};
@@ -72,9 +72,17 @@ impl<V: Stands, W: Settles<Ground = V::Ground, Sub = V::Sub, Round = V::Round>> 
         let Some(pass) = rest.pop() else {
             unreachable!();
         };
-        let CallerPass { seat: mut last } = pass;
+        let CallerPass {
+            seat: mut last,
+            number: _,
+            submitted: _,
+        } = pass;
         while let Some(pass) = rest.pop() {
-            let CallerPass { seat } = pass;
+            let CallerPass {
+                seat,
+                number: _,
+                submitted: _,
+            } = pass;
             self.table.shared.join_seat::<End>(&mut last, seat);
         }
         self.finish(last)

@@ -55,7 +55,11 @@ impl<V: Stands, W: Settles<Ground = V::Ground, Sub = V::Sub, Round = V::Round>> 
         requires { (b : V.Ground) × (callers : ℕ) × (made : ℕ) × (seat.me ≡ (newcomer (Some b) callers 0 true made, [])) }
         ensures { result ≡ pass_of seat.table_id seat.me.0 }
     {
-        CallerPass { seat }
+        CallerPass {
+            seat,
+            number: 0,
+            submitted: 0,
+        }
     }
 }
 
@@ -64,7 +68,9 @@ impl<V: Stands, W: Settles<Ground = V::Ground, Sub = V::Sub, Round = V::Round>> 
     fn next(
         &self,
         maker: &mut Seat<Held<V, W>, View<V::Ground, V::Sub, V::Round>>,
+        number: u32,
     ) -> CallerPass<V, W>
+        requires number { maker.old.me.0.made ≡ number }
         requires book { maker.old.table_id ≡ self.now.id }
         requires unspent { maker.old.me.0.spent ≡ false }
         requires makes { maker.old.me.0.makes ≡ true }
@@ -75,6 +81,8 @@ impl<V: Stands, W: Settles<Ground = V::Ground, Sub = V::Sub, Round = V::Round>> 
     {
         CallerPass {
             seat: self.table.shared.split_seat::<Next>(maker),
+            number,
+            submitted: 0,
         }
     }
 
@@ -97,8 +105,8 @@ impl<V: Stands, W: Settles<Ground = V::Ground, Sub = V::Sub, Round = V::Round>> 
     {
         let (book, mut first) = start(alloc, desk, chip, callers)?;
         let mut passes = Vec::new(alloc);
-        for _i in 1..callers {
-            passes.push(book.next(&mut first))?;
+        for i in 1..callers {
+            passes.push(book.next(&mut first, i))?;
         }
         passes.insert(0, CallerPass::first(first))?;
         Ok((book, passes))

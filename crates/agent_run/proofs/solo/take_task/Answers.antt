@@ -2,7 +2,7 @@ use Rattle.std.proofs.Common.{rules, arith, ap, ◌∙◌}
 use Rattle.switch_model.specs.Journal.{after_verdict}
 use Rattle.agent_run.specs.Kept.{Moment}
 use Rattle.agent_run.specs.Single.{version_by}
-use Rattle.agent_run.proofs.KeptLaws.{settles_on, refuses_on}
+use Rattle.agent_run.proofs.KeptLaws.{settles_on, refuses_on, follows_shared}
 use Rattle.agent_run.proofs.solo.take_task.Goals as goal
 
 pub returns-then-position-limit-clause-step : goal.returns-then-position-limit-clause-step
@@ -21,10 +21,10 @@ returns-clause-step g c =
     let done = c.in_ok-verdict.ensures in
     let judged = done.verdict in
     settles_on c.args.limit caps c.args.task before after c.requires.plain (omega (arith, c.if-position-limit.false))
-    (record {
-      state = done.state ∙ ap (after_verdict old.switch.state c.args.task.update) judged;
+    (follows_shared caps c.args.task old.switch.settled before after c.in_ok-of.field-0 c.in_ok-of.ensures.value (record {
+      state = done.state ∙ ap (after_verdict old.switch.state c.in_ok-of.field-0) judged;
       version = done.version ∙ ap (version_by old.switch.version) judged;
       settled = done.settled;
       rounds = done.rounds;
-    })
+    }))
     (search rules)

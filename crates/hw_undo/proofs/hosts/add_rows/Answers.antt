@@ -4,7 +4,7 @@ use Rattle.net_types.specs.Rows.{Rows}
 use Rattle.chip_core.specs.Chip.{view_of}
 use Rattle.hw_undo.specs.Counts.{new_rows_in}
 use Rattle.hw_undo.proofs.ChangeLaws.{dropped, add-full, add-turn, sum-opened}
-use Rattle.hw_undo.proofs.Lists.{on_err}
+use Rattle.chip_core.specs.ListLaws.{on_err}
 use Rattle.hw_undo.proofs.RollBack.{but-stop, but-turn}
 use Rattle.hw_undo.proofs.hosts.add_rows.Goals as goal
 

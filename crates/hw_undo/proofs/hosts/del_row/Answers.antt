@@ -19,4 +19,4 @@ returns-clause-view g c =
 pub returns-clause-noted : goal.returns-clause-noted
 returns-clause-noted g c =
     let sound = g.met.C.HwSwitch.sound c.args.chip.now in
-    noted-one _ _ _ (undoes-removed_host _ (g.C.HwSwitch.raw c.args.chip.now) _ _ _ sound c.del_host-old_key.ensures.raw c.del_host-old_key.ensures.old) c.note.ensures.items c.del_host-old_key.ensures.caps c.del_host-old_key.ensures.writes c.note.ensures.len c.note.ensures.room
+    noted-one _ _ _ (λ groups are. undoes-removed_host groups _ (g.C.HwSwitch.raw c.args.chip.now) _ _ _ sound c.del_host-old_key.ensures.raw c.del_host-old_key.ensures.old) c.note.ensures.items c.del_host-old_key.ensures.caps c.del_host-old_key.ensures.writes c.note.ensures.len c.note.ensures.room

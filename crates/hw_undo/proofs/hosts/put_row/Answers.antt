@@ -21,7 +21,7 @@ returns-in-Ok-clause-view g c =
 pub returns-in-Ok-clause-noted : goal.returns-in-Ok-clause-noted
 returns-in-Ok-clause-noted g c =
     let sound = g.met.C.HwSwitch.sound c.args.chip.now in
-    noted-one _ _ _ (undoes-added_host _ (g.C.HwSwitch.raw c.args.chip.now) _ _ _ _ sound c.in-Ok.ensures.ok c.in-Ok.ensures.slot.free) c.note.ensures.items c.in-Ok.ensures.caps c.in-Ok.ensures.writes c.note.ensures.len c.note.ensures.room
+    noted-one _ _ _ (λ groups are. undoes-added_host groups _ (g.C.HwSwitch.raw c.args.chip.now) _ _ _ _ sound c.in-Ok.ensures.ok c.in-Ok.ensures.slot.free) c.note.ensures.items c.in-Ok.ensures.caps c.in-Ok.ensures.writes c.note.ensures.len c.note.ensures.room
 
 pub returns-in-Err-clause-full : goal.returns-in-Err-clause-full
 returns-in-Err-clause-full g c =

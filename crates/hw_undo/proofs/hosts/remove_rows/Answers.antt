@@ -5,7 +5,7 @@ use Rattle.chip_core.specs.Chip.{view_of}
 use Rattle.hw_undo.specs.Counts.{removals_in}
 use Rattle.hw_undo.proofs.ChangeLaws.{dropped, remove-turn, sum-opened}
 use Rattle.hw_undo.proofs.Leads.{closed-remove_host}
-use Rattle.hw_undo.proofs.Views.{sorted-view}
+use Rattle.chip_core.specs.ViewLaws.{sorted-view}
 use Rattle.hw_undo.proofs.RollBack.{but-turn}
 use Rattle.hw_undo.proofs.hosts.remove_rows.Goals as goal
 

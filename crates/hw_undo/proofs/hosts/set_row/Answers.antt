@@ -14,4 +14,4 @@ pub returns-clause-noted : goal.returns-clause-noted
 returns-clause-noted g c =
     let row = host-there (g.C.HwSwitch.raw c.args.chip.now) _ _ c.requires.there c.slot_at-slot.ensures in
     let old = host-replaced _ _ row.0 c.set_host-old.result row.1 c.set_host-old.ensures.old in
-    noted-one _ _ _ (undoes-set_host _ (g.C.HwSwitch.raw c.args.chip.now) _ _ (c.args.key.now, c.set_host-old.result) _ c.set_host-old.ensures.raw old) c.note.ensures.items c.set_host-old.ensures.caps c.set_host-old.ensures.writes c.note.ensures.len c.note.ensures.room
+    noted-one _ _ _ (λ groups are. undoes-set_host groups _ (g.C.HwSwitch.raw c.args.chip.now) _ _ (c.args.key.now, c.set_host-old.result) _ c.set_host-old.ensures.raw old) c.note.ensures.items c.set_host-old.ensures.caps c.set_host-old.ensures.writes c.note.ensures.len c.note.ensures.room

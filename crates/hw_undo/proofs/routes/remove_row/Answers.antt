@@ -20,7 +20,7 @@ returns-in-Some-clause-view g c = view-without_route (g.C.HwSwitch.raw c.args.ch
 pub returns-in-Some-clause-noted : goal.returns-in-Some-clause-noted
 returns-in-Some-clause-noted g c =
     let sound = g.met.C.HwSwitch.sound c.args.chip.now in
-    rw c.in-Some.is (noted-one _ _ _ (undoes-removed_route _ (g.C.HwSwitch.raw c.args.chip.now) _ _ _ sound c.del_route-row.ensures.raw c.del_route-row.ensures.old) c.note.ensures.items c.del_route-row.ensures.caps c.del_route-row.ensures.writes c.note.ensures.len c.note.ensures.room)
+    rw c.in-Some.is (noted-one _ _ _ (λ groups are. undoes-removed_route groups _ (g.C.HwSwitch.raw c.args.chip.now) _ _ _ sound c.del_route-row.ensures.raw c.del_route-row.ensures.old) c.note.ensures.items c.del_route-row.ensures.caps c.del_route-row.ensures.writes c.note.ensures.len c.note.ensures.room)
 
 pub returns-in-None-clause-view : goal.returns-in-None-clause-view
 returns-in-None-clause-view g c =

@@ -4,7 +4,7 @@ use Rattle.net_types.specs.Rows.{Rows}
 use Rattle.chip_core.specs.Chip.{view_of}
 use Rattle.hw_undo.specs.Counts.{old_rows_in}
 use Rattle.hw_undo.proofs.ChangeLaws.{dropped, cut-turn, sum-opened}
-use Rattle.hw_undo.proofs.Views.{sorted-view}
+use Rattle.chip_core.specs.ViewLaws.{sorted-view}
 use Rattle.hw_undo.proofs.RollBack.{but-turn}
 use Rattle.hw_undo.proofs.routes.remove_rows.Goals as goal
 

@@ -1,6 +1,7 @@
 use Rattle.std.proofs.Common.{◌∙◌, arith, subst, sym}
 use Rattle.net_types.specs.declared.table.Tables.{Tables}
-use Rattle.chip_core.specs.Changes.{AreOldRows, IsClosed, changed_rows}
+use Rattle.chip_core.specs.Changes.{AreOldRows, changed_rows}
+use Rattle.net_types.specs.Closed.{IsClosed}
 use Rattle.chip_core.specs.Chip.{view_of}
 use Rattle.hw_undo_check.proofs.Oks.{answered, first_as, refused}
 use Rattle.hw_undo_check.proofs.runs.written.Goals as goal

@@ -1,8 +1,8 @@
 use Rattle.std.proofs.Common.{take, map}
 use Rattle.std.specs.List.{Contains}
 use Rattle.plain_resolver.specs.Gathered.{Grows}
-use Rattle.switch_model.specs.Reach.{meets}
+use Rattle.switch_model.specs.Reach.{leads_to}
 use Rattle.plain_resolver.proofs.gather.follow_hops.Given as goal
 
 abbrev pub invariant-loop-hop : goal.invariant-loop-hop
-invariant-loop-hop g l = Grows l.initial.all l.all (Contains (map (meets (g.R.BestRoutes.rib l.routes) l.vrf) (take l.hop-index l.hops)))
+invariant-loop-hop g l = Grows l.initial.all l.all (Contains (map (leads_to (g.R.BestRoutes.rib l.routes) l.vrf) (take l.hop-index l.hops)))

@@ -1,4 +1,4 @@
-use Rattle.std.proofs.Common.{true, sym, ◌∙◌}
+use Rattle.std.proofs.Common.{sym, ◌∙◌}
 use Rattle.std.proofs.lemmas.Bool.{false≢true}
 use Rattle.state_delta.proofs.Cutting.{parts_first, parts_second, parts_after, parts_before, first_lower, first_higher}
 use Rattle.state_delta.proofs.cut.parting.Goals as goal

@@ -1,8 +1,7 @@
-use Rattle.switch_model.specs.First.{first_that_holds}
-use Rattle.switch_model.specs.Reason.{reasons}
+use Rattle.switch_model.specs.Reason.{reason_of_act}
 use Rattle.switch_state.specs.Plain.{plain}
 use Rattle.state_update.proofs.Building.{invalid_by}
 use Rattle.state_update.proofs.acts.do_act.Goals as goal
 
 pub returns-in-Invalid-clause-invalid : goal.returns-in-Invalid-clause-invalid
-returns-in-Invalid-clause-invalid c = λ place reason same. invalid_by (first_that_holds (reasons (plain c.args.edit.now.state) c.args.act.now)) c.in_ok-apply_act.field-0 c.args.index place c.in-Invalid.reason reason c.in_ok-apply_act.ensures.answer c.in-Invalid.is same
+returns-in-Invalid-clause-invalid c = λ place reason same. invalid_by (reason_of_act (plain c.args.edit.now.state) c.args.act.now) c.in_ok-apply_act.field-0 c.args.index place c.in-Invalid.reason reason c.in_ok-apply_act.ensures.answer c.in-Invalid.is same

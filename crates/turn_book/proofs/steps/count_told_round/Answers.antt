@@ -1,5 +1,5 @@
 use Rattle.std.proofs.Common.{rules, ◌∙◌, sym, subst}
-use mathlib.Core.List.{IsPrefix}
+use Rattle.keyed.specs.Prefix.{IsPrefix}
 use Rattle.turn_book.specs.Lists.{strip}
 use Rattle.turn_book.proofs.KeepsCounts.{settles_round}
 use Rattle.turn_book.proofs.steps.count_told_round.Goals as goal

@@ -1,12 +1,12 @@
 use Rattle.std.proofs.Common.{All, Err, refl, sym, ap, ◌∙◌, subst}
-use Rattle.std.specs.Cmp.Lexicographic.{slice_cmp}
 use Rattle.std.specs.Ordering.{nat_cmp}
 use Rattle.net_types.specs.contracts.table.HostKeyOrd.TheImpl as host
 use Rattle.net_types.specs.contracts.table.RouteKeyOrd.TheImpl as route
 use Rattle.net_types.specs.declared.table.HostKey.{HostKey}
 use Rattle.net_types.specs.declared.table.HostRow.{HostRow}
 use Rattle.chip_core.specs.declared.fault.RowsFault.TheVariants.{BadRows}
-use Rattle.chip_core.specs.Slots.{Groups, Hosts, host_entries, hosts_of}
+use Rattle.chip_core.specs.Slots.{Groups, Hosts, host_entries}
+use Rattle.net_types.specs.Groups.{group_key_cmp, group_key_of}
 use Rattle.net_types.specs.KeyOrder.{l2_cmp}
 use Rattle.chip_core.specs.Tables.{IsSlotted, IsGroupRow}
 use Rattle.sorted_table.specs.Rows.{IsSorted}
@@ -21,7 +21,7 @@ returns-in-Err-host_table-clause-bad c is image =
 
 pub returns-in-Err-group_table-clause-bad : goal.returns-in-Err-group_table-clause-bad
 returns-in-Err-group_table-clause-bad c is image =
-    let by_group = subst (λ (g : Groups). IsSlotted (slice_cmp nat_cmp) hosts_of c.args.caps.group g) (sym c.as_slice-2.ensures) (image_group c.args.caps c.args.tables image) in
+    let by_group = subst (λ (g : Groups). IsSlotted group_key_cmp group_key_of c.args.caps.group g) (sym c.as_slice-2.ensures) (image_group c.args.caps c.args.tables image) in
     let rows = subst (λ (g : Groups). All (λ group. IsGroupRow group.1) g) (sym c.as_slice-2.ensures) (image_groups c.args.caps c.args.tables image) in
     c.in-Err-group_table.ensures.bad (ap Err (same_fault c.in-Err-group_table.fault BadRows is)) (by_group, rows)
 
@@ -61,11 +61,11 @@ invariant_of-result c =
       routes_sorted = c.in-Ok-sorted_table.ensures.sorted;
       hosts_slotted = c.in-Ok-host_table.ensures.slotted;
       groups_slotted = c.in-Ok-group_table.ensures.slotted;
-      linked = linked_from c.in-Ok.table.rows hosts groups routes rows members held;
+      linked = linked_from (record { l2 = c.in-Ok.table.rows; host = hosts; group = groups; route = routes }) rows members held;
     }
 
 pub returns-clause-raw : goal.returns-clause-raw
-returns-clause-raw c = tables_as c.args.tables c.in-Ok.table.rows c.in-Ok-host_table.table.rows c.in-Ok-group_table.table.rows c.in-Ok-sorted_table.table.rows (c.in-Ok.ensures.rows ∙ c.into_vec.ensures) (c.in-Ok-host_table.ensures.rows ∙ ap host_entries c.as_slice.ensures) (c.in-Ok-group_table.ensures.rows ∙ c.as_slice-2.ensures) (c.in-Ok-sorted_table.ensures.rows ∙ c.into_vec-route.ensures)
+returns-clause-raw c = tables_as c.args.tables (record { l2 = c.in-Ok.table.rows; host = c.in-Ok-host_table.table.rows; group = c.in-Ok-group_table.table.rows; route = c.in-Ok-sorted_table.table.rows }) (c.in-Ok.ensures.rows ∙ c.into_vec.ensures) (c.in-Ok-host_table.ensures.rows ∙ ap host_entries c.as_slice.ensures) (c.in-Ok-group_table.ensures.rows ∙ c.as_slice-2.ensures) (c.in-Ok-sorted_table.ensures.rows ∙ c.into_vec-route.ensures)
 
 pub returns-clause-image : goal.returns-clause-image
 returns-clause-image c =
@@ -76,9 +76,9 @@ returns-clause-image c =
     let members = members_as hosts hosts groups c.as_slice-3.result.now refl (c.in-Ok-group_table.ensures.rows ∙ c.as_slice-2.ensures ∙ sym c.as_slice-3.ensures) both.0 in
     let held = routes_as hosts hosts groups groups routes c.as_slice-4.result.now refl refl (c.in-Ok-sorted_table.ensures.rows ∙ sym c.as_slice-4.ensures.value) both.1 in
     let rows = subst (λ (g : Groups). All (λ group. IsGroupRow group.1) g) (sym c.in-Ok-group_table.ensures.rows) c.in-Ok-group_table.ensures.groups in
-    image_made c.args.caps c.args.tables c.in-Ok.table.rows hosts groups routes (c.in-Ok.ensures.rows ∙ c.into_vec.ensures) (c.in-Ok-host_table.ensures.rows ∙ ap host_entries c.as_slice.ensures) (c.in-Ok-group_table.ensures.rows ∙ c.as_slice-2.ensures) (c.in-Ok-sorted_table.ensures.rows ∙ c.into_vec-route.ensures)
+    image_made c.args.caps c.args.tables (record { l2 = c.in-Ok.table.rows; host = hosts; group = groups; route = routes }) (c.in-Ok.ensures.rows ∙ c.into_vec.ensures) (c.in-Ok-host_table.ensures.rows ∙ ap host_entries c.as_slice.ensures) (c.in-Ok-group_table.ensures.rows ∙ c.as_slice-2.ensures) (c.in-Ok-sorted_table.ensures.rows ∙ c.into_vec-route.ensures)
     (subst (λ n. IsSorted l2_cmp n c.in-Ok.table.rows) c.in-Ok.ensures.capacity c.in-Ok.ensures.sorted)
     (subst (λ n. IsSlotted (host.cmp-value).it (λ (e : HostKey × HostRow). e.0) n hosts) c.in-Ok-host_table.ensures.capacity c.in-Ok-host_table.ensures.slotted)
-    (subst (λ n. IsSlotted (slice_cmp nat_cmp) hosts_of n groups) c.in-Ok-group_table.ensures.capacity c.in-Ok-group_table.ensures.slotted)
+    (subst (λ n. IsSlotted group_key_cmp group_key_of n groups) c.in-Ok-group_table.ensures.capacity c.in-Ok-group_table.ensures.slotted)
     (subst (λ n. IsSorted (route.cmp-value).it n routes) c.in-Ok-sorted_table.ensures.capacity c.in-Ok-sorted_table.ensures.sorted)
     rows members held

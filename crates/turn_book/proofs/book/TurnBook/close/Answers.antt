@@ -2,7 +2,7 @@ use Rattle.std.proofs.Common.{rules, arith, ◌≡◌, ◌+◌, [], ◌∷◌, �
 use mathlib.Core.Logic.{dite}
 use native.Mathlib.Decide.{ℕ_discrete}
 use mathlib.Core.Option.{some, some-injective}
-use mathlib.Core.List.{IsPrefix}
+use Rattle.keyed.specs.Prefix.{IsPrefix, prefix_self, prefix_shorter}
 use lib.ListN.{get_elem?}
 use Rattle.atomic_table.proofs.Lists.{at_last, at_longer}
 use Rattle.turn_book.specs.Lists.{own}
@@ -10,9 +10,9 @@ use Rattle.turn_book.specs.Passes.{IsPassOf}
 use Rattle.turn_book.specs.Closing.{HoldsNothing}
 use Rattle.turn_book.specs.Means.{Means, means}
 use Rattle.turn_book.specs.Steps.{ended_of, hand_of}
-use Rattle.turn_book.proofs.Own.{prefix_self, at_below}
+use Rattle.turn_book.proofs.Own.{at_below}
 use Rattle.turn_book.proofs.KeepsSeats.{joins_in}
-use Rattle.turn_book.proofs.Closes.{end_of, all_at, at_all, prefix_last, prefix_shorter, part_at, once, has_all}
+use Rattle.turn_book.proofs.Closes.{end_of, all_at, at_all, prefix_last, part_at, once, has_all}
 use Rattle.turn_book.proofs.book.TurnBook.close.Goals as goal
 
 pub loop-pass-init : goal.loop-pass-init

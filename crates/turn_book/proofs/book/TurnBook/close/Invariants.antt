@@ -1,6 +1,6 @@
 use Rattle.std.proofs.Common.{◌≡◌, ℕ, ◌+◌, ◌≤◌, [], length}
 use mathlib.Core.Option.{some}
-use mathlib.Core.List.{IsPrefix}
+use Rattle.keyed.specs.Prefix.{IsPrefix}
 use lib.ListN.{get_elem?}
 use Rattle.turn_book.proofs.Closes.{end_of}
 use Rattle.turn_book.proofs.book.TurnBook.close.Given as goal

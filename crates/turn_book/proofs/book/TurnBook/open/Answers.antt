@@ -16,8 +16,8 @@ loop-i-preserved g c =
     let inside = ap (λ b. b.id) c.book.view_is in
     let same : c.loop-i.first.table_id ≡ id = inv.table ∙ (inside ∙ sym c.next.ensures.book) in
     let items : c.push.new.self.items ≡ old ++ c.next.result ∷ [] = search rules in
-    let count : n + 1 ≡ c.loop-i._i = inv.count in
-    let place : c.loop-i._i ≡ 1 + n = omega arith in
+    let count : n + 1 ≡ c.loop-i.i = inv.count in
+    let place : c.loop-i.i ≡ 1 + n = omega arith in
     let pass : c.next.result ≡ new_pass B (1 + n) =
     c.next.ensures.pass ∙ (ap (λ t. pass_of t (newcomer c.loop-i.first.me.0.opening c.loop-i.first.me.0.callers c.loop-i.first.me.0.made false 0)) (sym c.next.ensures.book)
     ∙ (ap (λ m. pass_of id (newcomer m.0.opening m.0.callers m.0.made false 0)) inv.maker ∙ ap (λ (i : ℕ). new_pass B i) place)) in
@@ -37,8 +37,8 @@ returns-clause-passes g c =
     let old : List (Pass g.row.V-Ground.Denot g.row.V-Sub.Denot g.row.V-Round.Denot) = c.loop-i.passes.items in
     let n : ℕ = length old in
     let items : c.insert.new.self.items ≡ c.first.result ∷ old = search rules in
-    let count : n + 1 ≡ c.loop-i._i = inv.count in
-    let last : c.loop-i._i ≡ c.args.callers = omega arith in
+    let count : n + 1 ≡ c.loop-i.i = inv.count in
+    let last : c.loop-i.i ≡ c.args.callers = omega arith in
     let many : suc n ≡ c.args.callers = omega arith in
     let B : Book g.row.V-Ground.Denot = record { id = c.loop-i.first.table_id; callers = c.args.callers; opening = base } in
     let first : c.first.result ≡ new_pass B 0 = c.first.ensures ∙ ap (λ m. pass_of c.loop-i.first.table_id m.0) inv.maker in

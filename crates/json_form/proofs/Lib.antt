@@ -1,0 +1,5 @@
+pub mod Arity
+pub mod ReadLists
+pub mod FormLaws
+pub mod ListLaws
+pub mod ObjectLaws

@@ -1,0 +1,4 @@
+pub mod Form
+pub mod Arrays
+pub mod Lists
+pub mod Objects

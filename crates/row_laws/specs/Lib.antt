@@ -1,0 +1,3 @@
+pub mod RowAt
+pub mod Hops
+pub mod Touching

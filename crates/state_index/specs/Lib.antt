@@ -1,0 +1,3 @@
+pub mod MemberKey
+pub mod MemberList
+pub mod IntfIndex

@@ -1,0 +1,4 @@
+pub mod Numbered
+pub mod Indexing
+mod Changing
+mod Overlaps

@@ -1,0 +1,4 @@
+pub mod Index
+pub mod SubnetKey
+pub mod SubnetList
+pub mod Overlapping

@@ -1,0 +1,2 @@
+mod FibEntries
+pub mod LeftLaws
