@@ -18,6 +18,3 @@ mod top;
 pub use laws::{solo_is_reached, solo_is_told};
 pub use status::Status;
 pub use top::{LONGEST_SCRIPT, agent_main};
-
-#[cfg(test)]
-mod tests;

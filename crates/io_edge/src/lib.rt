@@ -20,6 +20,3 @@ pub use mem_store::MemStore;
 pub use outside::{Failed, Sink, Source, Store, StoreFault};
 pub use standard::{StdSink, StdSource};
 pub use transfer::{ReadFault, read_all, write_all};
-
-#[cfg(test)]
-mod tests;

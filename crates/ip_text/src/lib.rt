@@ -19,6 +19,3 @@ pub use fault::TextFault;
 pub use laws::{forms_are_functions, printed_is_a_word, printed_is_read_back};
 pub use print::{print_addr, print_hop, print_ip, print_mac, print_prefix};
 pub use read::{read_addr, read_hop, read_ip, read_mac, read_prefix};
-
-#[cfg(test)]
-mod tests;

@@ -1,13 +1,13 @@
 -- The laws of forms: of numbers, of arrays of so many items, and of lists.
-use Rattle.std.proofs.Common.{◌≡◌, ℕ, suc, ◌≤◌, ◌&&◌, ◌||◌, nat_le, max, List, [], ◌∷◌, ◌++◌, Option, None, Some, bytes_eq, ◌⊎◌, inl, inr, Bool, true, false, cond, refl, sym, ap, ◌∙◌, subst, arith}
-use Rattle.std.specs.Prelude.{map, option_map, option_and_then}
+use Rattle.std.proofs.Common.{◌≡◌, ℕ, suc, ◌≤◌, ◌&&◌, nat_le, max, List, Option, None, Some, bytes_eq, ◌⊎◌, inl, inr, Bool, true, false, cond, refl, sym, ap, ◌∙◌, subst, arith}
+use Rattle.std.specs.Prelude.{option_map}
 use Rattle.std.proofs.lemmas.Slice.Eq.{bytes_eq-Decides}
 use Rattle.std.proofs.lemmas.Bool.{and_parts, le-leb, leb-true}
 use Rattle.std.proofs.lemmas.Option.{cond_some, none-some, option_and_then_some, same_Some}
-use Rattle.serde_json.specs.Data.{Data, null, boolean, number, string, array, object, Items, no_items, item, unsigned, negative, float, Num, depth, items_depth}
-use Rattle.serde_json.specs.Find.{as_array, as_bool, as_number, as_u64}
-use Rattle.serde_json.specs.Written.{has_float, items_have_float}
-use Rattle.json_form.specs.Arrays.{five_items, five_of, quint_of, quint_json, word_of, IsEither, either_json, either_of, or_else, printed_of, four_items, four_of, quad_of, quad_json, within, number_of, one_of, single_of, single_json, two_items, two_of, three_items, three_of, pair_of, pair_json, triple_of, triple_json, constant_of, text_of}
+use Rattle.serde_json.specs.Data.{Data, null, boolean, number, string, array, object, no_items, item, unsigned, negative, float, depth}
+use Rattle.serde_json.specs.Find.{as_bool}
+use Rattle.serde_json.specs.Written.{has_float}
+use Rattle.json_form.specs.Arrays.{five_of, quint_of, quint_json, word_of, IsEither, either_json, either_of, or_else, printed_of, four_of, quad_of, quad_json, within, number_of, one_of, single_of, single_json, two_of, three_of, pair_of, pair_json, triple_of, triple_json, constant_of, text_of}
 use Rattle.json_form.specs.Form.{Form}
 
 -- ---- numbers

@@ -1,13 +1,10 @@
 -- The laws of objects.
-use Rattle.std.proofs.Common.{◌≡◌, ℕ, suc, ◌≤◌, max, List, Option, None, Some, Bool, true, false, cond, bytes_eq, refl, sym, ap, ◌∙◌, subst, arith}
-use Rattle.std.specs.Prelude.{option_map, option_and_then}
+use Rattle.std.proofs.Common.{◌≡◌, ℕ, suc, List, Option, None, Some, cond, bytes_eq, refl, sym, ap, ◌∙◌, subst, arith}
 use Rattle.std.proofs.lemmas.Slice.Eq.{bytes_eq-Decides}
-use Rattle.std.proofs.lemmas.Option.{cond_some, none-some, option_and_then_some, same_Some}
-use Rattle.serde_json.specs.Data.{Data, null, boolean, number, string, array, object, Members, no_members, member, depth, members_depth}
-use Rattle.serde_json.specs.Find.{as_object}
-use Rattle.serde_json.specs.Written.{has_float, members_have_float}
+use Rattle.std.proofs.lemmas.Option.{cond_some, none-some, option_and_then_some}
+use Rattle.serde_json.specs.Data.{Data, null, boolean, number, string, array, object, Members, no_members, member}
 use Rattle.json_form.specs.Form.{Form}
-use Rattle.json_form.specs.Objects.{next_named, behind, end_of, field_of, object_of, Fields}
+use Rattle.json_form.specs.Objects.{next_named, named_of, behind, end_of, field_of, object_of, Fields}
 use Rattle.json_form.proofs.FormLaws.{map_some, max_within}
 
 next-takes : (name : List ℕ) (ms : Members) (d : Data) → next_named name ms ≡ Some d → member name d (behind ms) ≡ ms
@@ -30,7 +27,7 @@ end_form k = record { takes = end-takes; again = λ a legal. refl; plain = λ a.
 field-takes : {A B : Type 0} (name : List ℕ) {k : ℕ} {f : Data → Option A} {a : A → Data} {La : A → Type 0} {rest : Members → Option B} {m : B → Members} {Lm : B → Type 0} → Form k f a La → Fields k rest m Lm
     → (ms : Members) (p : A × B) → field_of name f rest ms ≡ Some p → (member name (a p.0) (m p.1) ≡ ms) × (La p.0 × Lm p.1)
 field-takes {A} {B} name {k} {f} {a} {La} {rest} {m} {Lm} one others ms p h =
-    option_and_then_some _ (next_named name ms) p h (λ d is inner. option_and_then_some _ (f d) p inner (λ x found last.
+    option_and_then_some _ (named_of name f ms) p h (λ x named last. option_and_then_some _ (next_named name ms) x named (λ d is found.
     let end = map_some _ (rest (behind ms)) p last in
     let first = one.takes d x found in
     let second = others.takes (behind ms) end.0 end.1 in

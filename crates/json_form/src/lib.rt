@@ -9,4 +9,4 @@ mod members;
 
 pub use arrays::{five, four, number, pair, single, three};
 pub use lists::{RowReader, RowWriter, read_rows, write_rows};
-pub use members::{is_end, next_named};
+pub use members::{is_end, named_number, named_rows, next_named};

@@ -8,6 +8,3 @@ mod walk;
 pub use node_key::NodeKey;
 pub use set::KeySet;
 pub use walk::KeyWalk;
-
-#[cfg(test)]
-mod tests;

@@ -6,6 +6,3 @@ mod part;
 mod scan;
 
 pub use looker::PlainLooker;
-
-#[cfg(test)]
-mod tests;

@@ -6,6 +6,3 @@ mod gather;
 mod resolver;
 
 pub use resolver::PlainResolver;
-
-#[cfg(test)]
-mod tests;

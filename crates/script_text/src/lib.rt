@@ -21,8 +21,3 @@ pub use page::Page;
 pub use print::{print_update, write_update};
 pub use script::{BaseList, Job, Line, LineList, PhaseList, Script, Start};
 pub use whole::read_script;
-
-#[cfg(test)]
-mod print_tests;
-#[cfg(test)]
-mod tests;

@@ -15,6 +15,3 @@ pub use cursor::Cursor;
 pub use fault::{BadWord, ReadFault};
 pub use lines::{all_allowed, is_skipped, next_line};
 pub use words::{count, is};
-
-#[cfg(test)]
-mod tests;

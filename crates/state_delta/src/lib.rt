@@ -8,6 +8,3 @@ mod search;
 
 pub use change::{Change, Kind};
 pub use delta::{MapDelta, map_delta};
-
-#[cfg(test)]
-mod tests;

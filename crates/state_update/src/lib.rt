@@ -14,8 +14,3 @@ mod update;
 
 pub use acts::{BuildFault, build};
 pub use update::{Applied, apply};
-
-#[cfg(test)]
-mod hop_tests;
-#[cfg(test)]
-mod tests;

@@ -1,5 +1,6 @@
 pub mod KeyLaws
 pub mod Notation
+mod AnyAtPlace
 mod ExamplesAddresses
 mod ExamplesRoutes
 mod ExamplesRows

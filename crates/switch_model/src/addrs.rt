@@ -101,8 +101,10 @@ impl AddrList {
         self.addrs.get(n)
     }
 
+    /// The addresses as a slice, by ip.
     pub fn as_slice(&self) -> &[Addr]
-        ensures { result.now ≡ self.now }
+        ensures value { result.now ≡ self.now }
+        ensures ascending { IsStrictlySortedBy addr_cmp result.now }
     {
         self.addrs.as_slice()
     }
@@ -172,9 +174,13 @@ impl AddrList {
     pub fn has_addr(&self, wanted: &Addr) -> bool
         ensures { result ≡ list_any (same_addr wanted.now) self.now }
     {
-        self.addrs
-            .iter()
-            .any(|addr| compare_addrs(wanted, addr).is_eq())
+        match self
+            .addrs
+            .binary_search_by(|addr| addr.ip().cmp(&wanted.ip()))
+        {
+            Ok(place) => compare_addrs(wanted, &self.addrs[place]).is_eq(),
+            Err(_) => false,
+        }
     }
 }
 

@@ -31,6 +31,3 @@ pub use record::{FibEntry, IntfRec, MacRec, NeighborRec, PortRec, RouteRec, Tota
 pub use reply::{Reply, ReplyList};
 pub use verdict::{Reason, Verdict};
 pub use via::{RouteList, Via};
-
-#[cfg(test)]
-mod tests;

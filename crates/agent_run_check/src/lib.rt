@@ -1,0 +1,5 @@
+//! Tests of the whole program: scripts, statuses, and what is written.
+#![tactic(auto)]
+
+#[cfg(test)]
+mod run_tests;

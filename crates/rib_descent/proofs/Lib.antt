@@ -1,0 +1,2 @@
+mod CommonLaws
+mod StepLaws

@@ -1,0 +1,3 @@
+pub mod FrontLaws
+pub mod StepLaws
+pub mod Derived

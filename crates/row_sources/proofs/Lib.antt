@@ -1,0 +1,4 @@
+pub mod GatherLaws
+pub mod SetLaws
+pub mod HostLaws
+pub mod RowLaws

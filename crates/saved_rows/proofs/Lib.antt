@@ -1,0 +1,4 @@
+mod Orders
+pub mod ValueForms
+pub mod ChipForms
+pub mod StateForms

@@ -1,4 +1,0 @@
-use Rattle.state_delta.proofs.tests.lines.Goals as goal
-
-pub map_delta-change-items-requires : goal.map_delta-change-items-requires
-map_delta-change-items-requires c = (c.args.version, c.requires)

@@ -1,5 +1,0 @@
-use Rattle.node_map.specs.Follows.{IsMadeBy}
-use Rattle.state_delta.proofs.tests.random_changes_beside_a_table.Given as goal
-
-abbrev pub invariant-loop-version : goal.invariant-loop-version
-invariant-loop-version g l = IsMadeBy l.version l.map.nodes

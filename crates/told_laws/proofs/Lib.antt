@@ -1,0 +1,10 @@
+pub mod ListLaws
+pub mod GivingLaws
+pub mod FillingLaws
+pub mod KeepingLaws
+pub mod ServingLaws
+pub mod ClosingLaws
+pub mod SoloLaws
+pub mod RunLaws
+pub mod LineLaws
+pub mod ToldLaws
