@@ -1,0 +1,6 @@
+use Rattle.state_keys.specs.PartKeys.{IsNdpNumber, ndp_of}
+use Rattle.saved_state.proofs.Walked.{IsListing}
+use Rattle.saved_state.proofs.neighbors.ndp_rows.Given as goal
+
+abbrev pub invariant-loop-key : goal.invariant-loop-key
+invariant-loop-key l = IsListing IsNdpNumber ndp_of l.rows.items l.key-iterator l.fn.map.entries

@@ -1,0 +1,5 @@
+pub mod Contents
+pub mod Digest
+pub mod Texts
+pub mod Reading
+pub mod Merging
