@@ -1,13 +1,4 @@
-pub mod Changed
-pub mod Code
-pub mod Bare
-pub mod Served
-pub mod Plan
-pub mod Ground
-pub mod Refusal
-pub mod Kept
-pub mod Single
-pub mod Solo
-pub mod Told
-pub mod Top
-pub mod Stations
+pub mod Base
+pub mod Standing
+pub mod Run
+pub mod Script

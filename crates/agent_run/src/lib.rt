@@ -1,20 +1,11 @@
-//! The run of a script: the switch with its chip, its journal, and the program as one call.
+//! The program as one call: a script is read, run on a switch of its capacities, and reported.
 #![tactic(auto)]
 
 mod base;
-mod laws;
-mod load;
-mod plan;
-mod program;
-mod refusal;
 mod report;
-mod solo;
-mod state;
-mod stations;
-mod status;
-mod switch;
+mod run;
+mod standing;
 mod top;
 
-pub use laws::{solo_is_reached, solo_is_told};
-pub use status::Status;
+pub use run_outcome::Status;
 pub use top::{LONGEST_SCRIPT, agent_main};

@@ -1,92 +1,145 @@
 // The report of a script's run.
-ghost use Rattle.std.specs.Prelude.{◌≡◌, ◌≤◌, IfErr, IfOk};
+ghost use Rattle.std.specs.Prelude.{◌≡◌, ◌≤◌, IfErr, IfOk, MatchOption, map};
 ghost use Rattle.std.specs.List.{AllByRecursion};
-ghost use Rattle.chip_core.specs.Chip.{empty as no_rows};
-ghost use Rattle.agent_run.specs.declared.refusal.RunFault.TheVariants.{NoMemory};
-ghost use Rattle.agent_run.specs.Bare.{IsBare};
-ghost use Rattle.agent_run.specs.Served.{IsServed};
-ghost use Rattle.agent_run.specs.Single.{IsPlain};
-ghost use Rattle.agent_run.specs.Top.{IsReport, IsReportOf, IsRunReport, IsRefused, IsPlanRefused, IsOpeningRefused, IsRunnable, OrNoMemory};
+ghost use Rattle.agent_run.specs.Run.{IsOverfull, ReportsRun, opening_of};
+ghost use Rattle.agent_run.specs.Script.{ReportsScript};
+ghost use Rattle.agent_run.specs.Standing.{sures_of};
+ghost use Rattle.net_types.specs.Capacity.{over};
+ghost use Rattle.run_outcome.specs.declared.refusal.RunFault.TheVariants.{NoMemory as OutOfMemory};
+ghost use Rattle.run_outcome.specs.Opening.{IsBuilt, IsRunnable};
+ghost use Rattle.run_outcome.specs.Reports.{IsReportOf};
+ghost use Rattle.run_outcome.specs.Top.{IsBaseRefused, IsRefused, IsScriptRefused, OrNoMemory};
+ghost use Rattle.script_text.specs.Ranges.{IsInRange};
+ghost use Rattle.script_text.specs.declared.script.Start.TheVariants.{Cold};
+ghost use Rattle.switch_model.specs.Rows.{rows};
+ghost use Rattle.switch_model.specs.Sound.{IsSound};
+ghost use Rattle.switch_state.specs.Plain.{plain};
 
-use crate::base::{Ground, lay};
-use crate::load::load;
-use crate::plan::{Plan, plan_of};
-use crate::refusal::{Refusal, RunFault, unread};
-use crate::solo::run_tasks;
-use crate::state::State;
-use chip_core::{HwSwitch, SimChip};
-use net_types::Table;
-use report_text::{ReportHead, report_bytes};
-use script_text::read_script;
+use crate::base::{Base, lay};
+use crate::run::{Work, run_on};
+use chip_core::SimChip;
+use net_types::Caps;
+use observers::{Observers, StateObserver};
+use run_outcome::{Refusal, RunFault, unread};
+use script_text::{Script, Start, read_script};
 use std::alloc::Global;
+use switch_state::SwitchState;
 
 /// The report of the run of a script that is these bytes, or why there is none.
-pub fn report_of(alloc: Global, bytes: &[u8]) -> Result<Vec<u8>, RunFault>
-    ensures report { IfOk result (λ text. IsReportOf bytes.now text.items) }
-    ensures fault { IfErr result (λ fault. OrNoMemory (IsRefused bytes.now) fault) }
-    // what can be run is reported, unless memory runs out
-    ensures only { IsRunnable bytes.now → IfErr result (λ fault. fault ≡ NoMemory) }
-{
-    let script = match read_script(alloc, bytes) {
-        Ok(script) => script,
-        Err(fault) => return Err(unread(fault)),
-    };
-    let plan = match plan_of(alloc, script)? {
-        Some(plan) => plan,
-        None => return Err(RunFault::Refused(Refusal::NotBuilt)),
-    };
-    let chip = SimChip::open(alloc, plan.caps)?;
-    run_plan(alloc, chip, plan)
-}
-
-/// Runs a script on a chip of its capacities, which has no rows yet.
-fn run_plan<C: HwSwitch>(alloc: Global, chip: C, plan: Plan) -> Result<Vec<u8>, RunFault>
-    requires chip { C.raw chip ≡ no_rows }
-    requires caps { C.caps chip ≡ plan.caps }
-    requires base { AllByRecursion (λ x. IsServed x.1) plan.base }
-    requires limit { plan.limit ≤ 1000000 }
-    requires tasks { AllByRecursion IsPlain plan.tasks }
-    ensures report { IfOk result (λ text. IsReport plan text.items) }
-    ensures fault { IfErr result (λ fault. OrNoMemory (IsPlanRefused plan) fault) }
-{
-    match lay(alloc, plan.base.as_slice())? {
-        Ground::Laid(state) => run_on(alloc, chip, state, plan),
-        Ground::Bad { line, reason } => Err(RunFault::Refused(Refusal::Base { line, reason })),
-    }
-}
-
-/// Runs the updates of a script whose base leads to the state.
-fn run_on<C: HwSwitch>(
+pub(crate) fn report_of<O: StateObserver>(
     alloc: Global,
-    mut chip: C,
-    state: State,
-    plan: Plan,
+    bytes: &[u8],
+    observers: Observers<O>,
 ) -> Result<Vec<u8>, RunFault>
-    requires chip { C.raw chip ≡ no_rows }
-    requires caps { C.caps chip ≡ plan.caps }
-    requires bare { IsBare state }
-    requires limit { plan.limit ≤ 1000000 }
-    requires tasks { AllByRecursion IsPlain plan.tasks }
-    ensures report { IfOk result (λ text. IsRunReport state plan text.items) }
-    ensures fault { IfErr result (λ fault. OrNoMemory (IsOpeningRefused state plan.caps) fault) }
+    ensures report { IfOk result (λ text. IsReportOf (sures_of (map O.watch observers.list.items)) bytes.now text.items) }
+    ensures fault { IfErr result (OrNoMemory (IsRefused bytes.now)) }
+    // what can be run is reported, unless memory runs out
+    ensures only { IsRunnable bytes.now → IfErr result (λ fault. fault ≡ OutOfMemory) }
 {
-    match load(&mut chip, &state) {
-        Ok(()) => {}
-        Err(_) => return Err(RunFault::Refused(Refusal::Opening(Table::L2))),
+    match read_script(alloc, bytes) {
+        Ok(script) => run_built(alloc, script, observers),
+        Err(fault) => {
+            drop(observers);
+            Err(unread(fault))
+        }
     }
-    let head = ReportHead {
-        warm: false,
-        caps: plan.caps,
+}
+
+/// The report of the run of a script, where it is built.
+fn run_built<O: StateObserver>(
+    alloc: Global,
+    script: Script,
+    observers: Observers<O>,
+) -> Result<Vec<u8>, RunFault>
+    requires range { IsInRange script }
+    ensures report { IfOk result (λ text. IsBuilt script × ReportsScript script (sures_of (map O.watch observers.list.items)) text.items) }
+    ensures fault { IfErr result (OrNoMemory (IsScriptRefused script)) }
+{
+    match built_caps(&script) {
+        Some(caps) => run_script(alloc, caps, script, observers),
+        None => {
+            drop(script);
+            drop(observers);
+            Err(RunFault::Refused(Refusal::NotBuilt))
+        }
+    }
+}
+
+/// The capacities of a script that is run: none exactly where it starts warm, or hasn't one caller.
+fn built_caps(script: &Script) -> Option<Caps>
+    ensures built { MatchOption result (IsBuilt script.now → ⊥) (λ caps. IsBuilt script.now × (script.now.start ≡ Cold caps)) }
+{
+    if script.callers != 1 {
+        return None;
+    }
+    match &script.start {
+        Start::Cold(caps) => Some(*caps),
+        Start::Warm(_) => None,
+    }
+}
+
+/// The report of the run of a cold script with one caller.
+fn run_script<O: StateObserver>(
+    alloc: Global,
+    caps: Caps,
+    script: Script,
+    observers: Observers<O>,
+) -> Result<Vec<u8>, RunFault>
+    requires start { script.start ≡ Cold caps }
+    requires limit { script.limit ≤ 1000000 }
+    requires callers { AllByRecursion (AllByRecursion (λ l. l.caller ≡ 0)) script.phases }
+    ensures report { IfOk result (λ text. ReportsScript script (sures_of (map O.watch observers.list.items)) text.items) }
+    ensures fault { IfErr result (OrNoMemory (IsBaseRefused script)) }
+{
+    let Script {
+        start,
+        limit,
+        callers: _,
+        base,
+        phases,
+    } = script;
+    drop(start);
+    let work = Work {
+        caps,
+        limit,
+        phases,
     };
-    let outcome = run_tasks(alloc, chip, state, plan.limit, plan.tasks)?;
-    let tables = outcome.switch.chip.copy_tables(alloc)?;
-    let text = report_bytes(
-        alloc,
-        &head,
-        0,
-        &outcome.switch.rounds,
-        &outcome.replies,
-        &tables,
-    )?;
-    Ok(text)
+    match lay(alloc, base) {
+        Ok(Base::Laid(state)) => run_state(alloc, state, work, observers),
+        Ok(Base::Bad { line, reason }) => {
+            drop(work);
+            drop(observers);
+            Err(RunFault::Refused(Refusal::Base { line, reason }))
+        }
+        Err(_) => {
+            drop(work);
+            drop(observers);
+            Err(RunFault::NoMemory)
+        }
+    }
+}
+
+/// The report of what is done after a state of version 0, on a chip in memory.
+fn run_state<O: StateObserver>(
+    alloc: Global,
+    state: SwitchState,
+    work: Work,
+    observers: Observers<O>,
+) -> Result<Vec<u8>, RunFault>
+    requires version { state.version ≡ 0 }
+    requires sound { IsSound (plain state) }
+    requires limit { work.limit ≤ 1000000 }
+    requires callers { AllByRecursion (AllByRecursion (λ l. l.caller ≡ 0)) work.phases }
+    ensures report { IfOk result (λ text. ReportsRun work (opening_of state work.caps) (sures_of (map O.watch observers.list.items)) text.items) }
+    ensures fault { IfErr result (OrNoMemory (IsOverfull (over (rows (plain state)) work.caps))) }
+{
+    match SimChip::open(alloc, work.caps) {
+        Ok(chip) => run_on(alloc, chip, state, work, observers),
+        Err(_) => {
+            drop(state);
+            drop(work);
+            drop(observers);
+            Err(RunFault::NoMemory)
+        }
+    }
 }

@@ -3,3 +3,5 @@
 
 #[cfg(test)]
 mod run_tests;
+#[cfg(test)]
+mod runs;

@@ -1,8 +1,13 @@
-//! What calls of the program answer, computed by hand: refused scripts with their lines, the
-//! smallest runs, and an outside that fails. The runs of `examples_check` are longer.
+//! What calls of the program answer: whole runs, refused scripts with their lines, and an outside that
+//! fails. The runs of `examples_check` are longer.
+use crate::runs::{
+    NO_LINES, PORT_FLAPS, QUEUE_RUNS, RACK, RACK_REPORT, ROUTE_RUNS, Run, STATION_RUNS,
+};
 use agent_run::agent_main;
 use io_edge::{MemSink, MemSource, MemStore, OpenGate};
 use net_types::{NoMemory, NumList};
+use observer_kinds::TotalsObserver;
+use observers::Observers;
 use std::alloc::Global;
 use std::sync::Wait;
 use std::test::Fail;
@@ -22,7 +27,7 @@ const LINES: [&[u8]; 9] = [
 ];
 
 /// The number of a line of that script, what stands in its place, and what is answered.
-const REPLACED: [(usize, &[u8], &[u8]); 19] = [
+const REPLACED: [(usize, &[u8], &[u8]); 20] = [
     (
         1,
         b"start cold 65537 4 4 4",
@@ -39,6 +44,7 @@ const REPLACED: [(usize, &[u8], &[u8]); 19] = [
     (2, b"\nlimit 0", b"error: script line 3 word 1\n"),
     (3, b"callers 17", b"error: script line 3 word 1\n"),
     (3, b"callers 01", b"error: script line 3 word 1\n"),
+    (3, b"callers 2", b"error: script not built\n"),
     (4, b"phase x", b"error: script line 4 word 1\n"),
     (5, b"0 vlan add 4095 x", b"error: script line 5 word 3\n"),
     (5, b"1 vlan add 10 web", b"error: script line 5 word 0\n"),
@@ -74,10 +80,8 @@ const REPLACED: [(usize, &[u8], &[u8]); 19] = [
 
 const NOT_BUILT: &[u8] = b"error: script not built\n";
 
-/// A script, the exit status and what is written.
-const SCRIPTS: [(&[u8], u8, &[u8]); 16] = [
-    (NO_LINES, 0, NO_LINES_REPORT),
-    (NO_PORT, 0, NO_PORT_REPORT),
+/// A script that isn't run, the exit status and the line that is written.
+const REFUSED: [(&[u8], u8, &[u8]); 11] = [
     (b"", 3, b"error: script line 1 word 0\n"),
     (b"start cold 4 4", 3, b"error: script line 1 word 4\n"),
     (
@@ -87,34 +91,9 @@ const SCRIPTS: [(&[u8], u8, &[u8]); 16] = [
     ),
     (b"start warm kept\nlimit 10\ncallers 1\n", 3, NOT_BUILT),
     (b"start cold 0 0 0 0\nlimit 1\ncallers 2\n", 3, NOT_BUILT),
-    (
-        b"start cold 4 4 4 4\nlimit 10\ncallers 1\nbase vlan del 1\n",
-        3,
-        NOT_BUILT,
-    ),
-    (
-        b"start cold 4 4 4 4\nlimit 10\ncallers 1\nphase\n0 vlan del 10\n",
-        3,
-        NOT_BUILT,
-    ),
-    (
-        b"start cold 4 4 4 4\nlimit 10\ncallers 1\nphase\n0 queue port up 1\n",
-        3,
-        NOT_BUILT,
-    ),
-    (
-        b"start cold 4 4 4 4\nlimit 10\ncallers 1\nphase\n0 alone port up 1\n",
-        3,
-        NOT_BUILT,
-    ),
-    (
-        b"start cold 4 4 4 4\nlimit 10\ncallers 1\nphase\n0 settle\n",
-        3,
-        NOT_BUILT,
-    ),
     // That a script isn't built is told before its base is tried.
     (
-        b"start cold 4 4 4 4\nlimit 1\ncallers 1\nbase port add 1 1\nphase\n0 peek\n",
+        b"start cold 4 4 4 4\nlimit 1\ncallers 2\nbase port add 1 1\n",
         3,
         NOT_BUILT,
     ),
@@ -130,44 +109,9 @@ const SCRIPTS: [(&[u8], u8, &[u8]); 16] = [
         3,
         b"error: script line 8 base VlanExists\n",
     ),
+    (ONE_SUBNET, 10, b"error: opening full route\n"),
+    (ONE_NEIGHBOR, 10, b"error: opening full host\n"),
 ];
-
-const NO_LINES: &[u8] = b"start cold 0 0 0 0
-limit 1
-callers 1
-";
-
-const NO_LINES_REPORT: &[u8] = b"report 1
-start cold version 0
-caps 0 0 0 0
-replies 0
-journal entries 0 rounds 0 version 0
-tables l2 0 host 0 group 0 route 0
-observers 0
-end
-";
-
-const NO_PORT: &[u8] = b"start cold 1 0 0 0
-limit 100
-callers 1
-base vlan add 10 web
-base port add 1 10
-phase
-0 mac set 10 02:00:00:00:00:01 7
-";
-
-const NO_PORT_REPORT: &[u8] = b"report 1
-start cold version 0
-caps 1 0 0 0
-replies 1
-7 settled 0 invalid NoPort version 0 front 1
-journal entries 1 rounds 1 version 0
-round 0 whole version 0
-0 caller 0 seq 0 invalid NoPort mac set 10 02:00:00:00:00:01 7
-tables l2 0 host 0 group 0 route 0
-observers 0
-end
-";
 
 const ONE_STATION: &[u8] = b"start cold 0 0 0 0
 limit 1
@@ -185,6 +129,31 @@ base port add 1 1
 base mac set 1 02:00:00:00:00:01 1
 # skipped, and counted
 base vlan add 1 a
+";
+
+const ONE_SUBNET: &[u8] = b"start cold 0 0 0 0
+limit 20
+callers 1
+base vlan add 10 web
+base intf add 1 10 0 02:00:00:00:01:01
+base addr add 1 10.0.0.1/24
+phase
+";
+
+const ONE_NEIGHBOR: &[u8] = b"start cold 0 0 0 0
+limit 20
+callers 1
+base vlan add 10 web
+base intf add 1 10 0 02:00:00:00:01:01
+base addr add 1 10.0.0.1/24
+base neighbor pending 1 10.0.0.2
+";
+
+/// How the report of a port that flaps ends with two observers.
+const OBSERVED: &[u8] = b"observers 2
+observer 0 version 5 ports 1 up 0 vlans 1 intfs 0 macs 1 neighbors 0 routes 0 fib 0
+observer 1 version 5 ports 1 up 0 vlans 1 intfs 0 macs 1 neighbors 0 routes 0 fib 0
+end
 ";
 
 /// Lists of words that are no command.
@@ -207,7 +176,24 @@ fn numbers(alloc: Global, items: &[u64]) -> Result<NumList, NoMemory> {
     Ok(NumList::from_vec(items.to_vec(alloc)?))
 }
 
-/// The exit status of the call with these words, and what was written.
+/// So many observers.
+fn observers_of(alloc: Global, count: usize) -> Result<Observers<TotalsObserver>, NoMemory> {
+    let mut list = Vec::new(alloc);
+    for _ in 0..count {
+        list.push(TotalsObserver::new())?;
+    }
+    Ok(Observers::new(list))
+}
+
+fn words_of(alloc: Global, words: &[&str]) -> Result<Vec<String>, NoMemory> {
+    let mut list = Vec::new(alloc);
+    for word in words {
+        list.push(String::from_str(alloc, *word)?)?;
+    }
+    Ok(list)
+}
+
+/// The exit status of the call with these words and no observers, and what was written.
 fn call<R: Threads + Wait + Sync>(
     rt: &R,
     alloc: Global,
@@ -216,10 +202,20 @@ fn call<R: Threads + Wait + Sync>(
     reads: Outside,
     writes: Outside,
 ) -> Result<(u8, Vec<u8>), NoMemory> {
-    let mut list = Vec::new(alloc);
-    for word in words {
-        list.push(String::from_str(alloc, *word)?)?;
-    }
+    observed(rt, alloc, words, script, reads, writes, 0)
+}
+
+/// The exit status of the call with these words and so many observers, and what was written.
+fn observed<R: Threads + Wait + Sync>(
+    rt: &R,
+    alloc: Global,
+    words: &[&str],
+    script: Vec<u8>,
+    reads: Outside,
+    writes: Outside,
+    count: usize,
+) -> Result<(u8, Vec<u8>), NoMemory> {
+    let list = words_of(alloc, words)?;
     let mut source = MemSource::new(script, reads.0.max(1), numbers(alloc, reads.1)?);
     let mut sink = MemSink::new(alloc, writes.0.max(1), numbers(alloc, writes.1)?);
     let mut store = MemStore::new(alloc, NumList::new(alloc));
@@ -231,6 +227,7 @@ fn call<R: Threads + Wait + Sync>(
         &mut sink,
         &mut store,
         &OpenGate,
+        observers_of(alloc, count)?,
     );
     Ok((status.code(), sink.bytes().to_vec(alloc)?))
 }
@@ -269,13 +266,52 @@ fn says_which_line_is_bad(rt: HostRuntime) -> Result<(), Fail> {
 }
 
 #[test]
-fn runs_a_script_or_says_why_not(rt: HostRuntime) -> Result<(), Fail> {
+fn says_why_a_script_is_not_run(rt: HostRuntime) -> Result<(), Fail> {
     let alloc = rt.alloc();
-    for (script, code, text) in SCRIPTS {
+    for (script, code, text) in REFUSED {
         let (status, written) = run(&rt, alloc, script, WELL, WELL)?;
         assert_eq!(rt; status, code);
         assert_eq!(rt; written.as_slice(), text);
     }
+    Ok(())
+}
+
+/// Each of these scripts has this report.
+fn are_reported<R: Threads + Wait + Sync>(
+    rt: &R,
+    alloc: Global,
+    runs: &[Run],
+) -> Result<bool, NoMemory> {
+    for (script, report) in runs {
+        let (status, written) = run(rt, alloc, script, WELL, WELL)?;
+        if status != 0 || written.as_slice() != *report {
+            return Ok(false);
+        }
+    }
+    Ok(true)
+}
+
+#[test]
+fn reports_whole_runs(rt: HostRuntime) -> Result<(), Fail> {
+    let alloc = rt.alloc();
+    let stations = are_reported(&rt, alloc, &STATION_RUNS)?;
+    assert!(rt; stations);
+    let queues = are_reported(&rt, alloc, &QUEUE_RUNS)?;
+    assert!(rt; queues);
+    let routes = are_reported(&rt, alloc, &ROUTE_RUNS)?;
+    assert!(rt; routes);
+    let rack = are_reported(&rt, alloc, &[(RACK, RACK_REPORT)])?;
+    assert!(rt; rack);
+    Ok(())
+}
+
+#[test]
+fn reports_where_observers_stand(rt: HostRuntime) -> Result<(), Fail> {
+    let alloc = rt.alloc();
+    let script = PORT_FLAPS.to_vec(alloc)?;
+    let (status, written) = observed(&rt, alloc, &["run"], script, WELL, WELL, 2)?;
+    assert_eq!(rt; status, 0);
+    assert!(rt; written.ends_with(OBSERVED));
     Ok(())
 }
 
@@ -307,15 +343,15 @@ fn reads_up_to_the_longest_script(rt: HostRuntime) -> Result<(), Fail> {
 #[test]
 fn each_failing_read_is_told(rt: HostRuntime) -> Result<(), Fail> {
     let alloc = rt.alloc();
-    for piece in [1, 7, 16] {
-        let reads = NO_LINES.len().div_ceil(piece) + 1;
+    for piece in [7, 64, 1024] {
+        let reads = RACK.len().div_ceil(piece) + 1;
         for call in 0..=reads {
             let failing = [call as u64];
-            let (status, written) = run(&rt, alloc, NO_LINES, (piece, &failing), WELL)?;
+            let (status, written) = run(&rt, alloc, RACK, (piece, &failing), WELL)?;
             let (code, text) = if call < reads {
                 (4, b"".as_slice())
             } else {
-                (0, NO_LINES_REPORT)
+                (0, RACK_REPORT)
             };
             assert_eq!(rt; status, code, "at read {call} of {piece}");
             assert_eq!(rt; written.as_slice(), text);
@@ -327,15 +363,15 @@ fn each_failing_read_is_told(rt: HostRuntime) -> Result<(), Fail> {
 #[test]
 fn each_failing_write_leaves_a_prefix(rt: HostRuntime) -> Result<(), Fail> {
     let alloc = rt.alloc();
-    for piece in [1, 7, 10, 16] {
-        let writes = NO_LINES_REPORT.len().div_ceil(piece);
+    for piece in [7, 64, 1024] {
+        let writes = RACK_REPORT.len().div_ceil(piece);
         for call in 0..=writes {
             let failing = [call as u64];
-            let (status, written) = run(&rt, alloc, NO_LINES, WELL, (piece, &failing))?;
+            let (status, written) = run(&rt, alloc, RACK, WELL, (piece, &failing))?;
             let code = if call < writes { 5 } else { 0 };
-            let moved = call.saturating_mul(piece).min(NO_LINES_REPORT.len());
+            let moved = call.saturating_mul(piece).min(RACK_REPORT.len());
             assert_eq!(rt; status, code, "at write {call} of {piece}");
-            assert_eq!(rt; written.as_slice(), &NO_LINES_REPORT[..moved]);
+            assert_eq!(rt; written.as_slice(), &RACK_REPORT[..moved]);
         }
     }
     let (status, written) = run(&rt, alloc, b"limit 1\n", WELL, (5, &[1]))?;
@@ -350,7 +386,7 @@ fn each_failing_write_leaves_a_prefix(rt: HostRuntime) -> Result<(), Fail> {
 #[test]
 fn refused_memory_is_told_as_such(rt: HostRuntime) -> Result<(), Fail> {
     let alloc = rt.alloc();
-    let Ok(script) = with_line(alloc, 0, b"") else {
+    let Ok(script) = RACK.to_vec(alloc) else {
         return Ok(());
     };
     let Ok((status, written)) = call(&rt, alloc, &["run"], script, WELL, (16, &[])) else {

@@ -3,7 +3,6 @@ use Rattle.std.specs.Prelude.{ℕ, Option, None, Some, List, [], ◌++◌, lengt
 use Rattle.std.specs.Fmt.{decimal}
 use Rattle.ip_text.specs.Printed.{prefix_text}
 use Rattle.net_types.specs.Cidr.{Cidr}
-use Rattle.net_types.specs.Rows.{Rows}
 use Rattle.script_text.specs.UpdateText.{client_text, hops_text}
 use Rattle.switch_model.specs.BestRoute.{BestRoute, connected, learnt}
 use Rattle.switch_model.specs.Fib.{fib}
@@ -29,8 +28,8 @@ totals_text t =
     ++ (codes " macs " ++ (decimal t.macs ++ (codes " neighbors " ++ (decimal t.neighbors ++ (codes " routes " ++ (decimal t.routes ++ (codes " fib " ++ decimal t.fib))))))))))))))
 
 -- how many rows each table has
-abbrev pub counts_text : Rows → List ℕ
-counts_text rows = codes "l2 " ++ (decimal (length rows.l2) ++ (codes " host " ++ (decimal (length rows.host) ++ (codes " group " ++ (decimal (length rows.group) ++ (codes " route " ++ decimal (length rows.route)))))))
+abbrev pub counts_text : ℕ → ℕ → ℕ → ℕ → List ℕ
+counts_text l2 host group route = codes "l2 " ++ (decimal l2 ++ (codes " host " ++ (decimal host ++ (codes " group " ++ (decimal group ++ (codes " route " ++ decimal route))))))
 
 -- a port's VLAN, and whether it is up
 abbrev pub port_text : ℕ → Option PortRec → List ℕ
@@ -68,4 +67,5 @@ answer_text query m version front = standing_text version front ++ query_text m 
 
 -- the answer to a line that asks for the chip's tables
 abbrev pub tables_text : PlainState → ℕ → ℕ → List ℕ
-tables_text m version front = standing_text version front ++ (codes " " ++ counts_text (rows m))
+tables_text m version front =
+    let all = rows m in standing_text version front ++ (codes " " ++ counts_text (length all.l2) (length all.host) (length all.group) (length all.route))

@@ -1,3 +1,4 @@
+mod EntryPlaces
 mod ImageLaws
 mod IndexLaws
 mod Members

@@ -82,3 +82,7 @@ all_more Is l i e within is here all k d lt = elim (either_side k i (omega (arit
 
 pub next_taken : {X : Type 0} (now l : List X) (i : ℕ) (e : X) → i < length l → e ≡ get_or l i e → now ≡ take i l → now ++ e ∷ [] ≡ take (i + 1) l
 next_taken now l i e within is so_far = ap (λ (r : List _). r ++ e ∷ []) so_far ∙ ap (λ (x : _). take i l ++ x ∷ []) is ∙ sym (take_more l i e within)
+
+-- what is said of all items holds of one that is read
+pub all_at : {X : Type 0} (Is : X → Type 0) (l : List X) (i : ℕ) (e : X) → i < length l → e ≡ get_or l i e → All Is l → Is e
+all_at Is l i e within is all = subst Is (sym is) (all i e within)

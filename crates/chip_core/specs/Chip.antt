@@ -89,3 +89,13 @@ pub record IsChip (caps : Caps) (raw : Tables) : Type 0 where
 pub record IsImage (caps : Caps) (tables : Tables) : Type 0 where
   pub chip : IsChip caps tables
   pub once : Each nat_cmp (λ members. IsDistinct nat_eq (hosts_of members)) tables.group
+
+-- what can be told of tables row by row: all that IsImage says, save that no host and no group stands in two slots
+pub record AreShaped (caps : Caps) (tables : Tables) : Type 0 where
+  pub l2 : Ascends l2_cmp tables.l2
+  pub host : Ascends nat_cmp (host_entries tables.host)
+  pub group : Ascends nat_cmp tables.group
+  pub route : Ascends route_cmp tables.route
+  pub links : AreLinked tables
+  pub within : IsWithin caps tables
+  pub once : Each nat_cmp (λ members. IsDistinct nat_eq (hosts_of members)) tables.group

@@ -8,12 +8,16 @@ use Rattle.keyed.specs.Named.{AreDistinct}
 use Rattle.keyed.specs.Props.{AreDistinct-prop, Ascends-prop}
 use Rattle.std.specs.Coded.{le_prop}
 use Rattle.net_types.specs.Groups.{IsGroupLength}
+use Rattle.net_types.specs.KeyOrder.{l2_cmp, route_cmp}
+use Rattle.net_types.specs.declared.table.Caps.{Caps}
+use Rattle.net_types.specs.declared.table.Tables.{Tables}
+use Rattle.sorted_table.specs.Rows.{IsSorted}
 use Rattle.net_types.specs.declared.group.Member.{Member}
 use Rattle.net_types.specs.declared.table.RouteKey.{RouteKey}
 use Rattle.net_types.specs.declared.table.RouteRow.{RouteRow}
 use Rattle.chip_core.specs.References.{IsRouteHeld}
 use Rattle.chip_core.specs.Sim.{tables_of, targets}
-use Rattle.chip_core.specs.Slots.{Groups, hosts_of}
+use Rattle.chip_core.specs.Slots.{Groups, host_entries, hosts_of}
 use Rattle.chip_core.specs.SlotsLaws.{Entries}
 
 -- a table by slot: slots ascend and lie below the capacity, and names are distinct
@@ -43,3 +47,16 @@ MembersHeld hosts groups = All (λ group. All (λ member. IsSome (at nat_cmp mem
 -- what each route leads to is there
 abbrev pub RoutesHeld : Entries → Groups → List (RouteKey × RouteRow) → Type 0
 RoutesHeld hosts groups routes = All (λ route. IsRouteHeld (tables_of (targets hosts groups)) route.1) routes
+
+-- slots ascend and lie below the capacity, so that they are no more than it
+pub record AreSlots {V : Type 0} (capacity : ℕ) (rows : List (ℕ × V)) : Type 0 where
+  pub ascends : Ascends nat_cmp rows
+  pub fits : length rows ≤ capacity
+  pub below : (slot : ℕ) → IsSome (at nat_cmp slot rows) → slot < capacity
+
+-- rows ascend by key or by slot, and have room
+pub record AreInOrder (caps : Caps) (tables : Tables) : Type 0 where
+  pub l2 : IsSorted l2_cmp caps.l2 tables.l2
+  pub host : AreSlots caps.host (host_entries tables.host)
+  pub group : AreSlots caps.group tables.group
+  pub route : IsSorted route_cmp caps.route tables.route

@@ -7,6 +7,7 @@ mod fault;
 mod image;
 mod laws;
 mod named;
+mod shape;
 mod sim;
 mod slots;
 mod switch;

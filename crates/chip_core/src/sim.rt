@@ -1,20 +1,20 @@
 // A chip in memory.
-ghost use Rattle.std.specs.Prelude.{◌≡◌, ◌<◌, ◌^◌, ◌↔◌, ◌++◌, ◌∷◌, All, Err, IfOk, IsTrue, OnOk, [], length, option_copied, slice_get};
+ghost use Rattle.std.specs.Prelude.{◌≡◌, ◌<◌, ◌^◌, ◌++◌, ◌∷◌, All, Err, IfOk, OnOk, [], length, option_copied, slice_get};
 ghost use Rattle.std.specs.Option.{option_map};
 ghost use Rattle.std.specs.Ordering.{nat_cmp};
 ghost use Rattle.keyed.specs.Keyed.{at};
-ghost use Rattle.net_types.specs.Groups.{group_key_cmp, group_key_of};
-ghost use Rattle.chip_core.specs.Chip.{AreLinked, IsImage, empty};
+ghost use Rattle.net_types.specs.Groups.{IsGroupLength, group_key_cmp, group_key_of};
+ghost use Rattle.chip_core.specs.Chip.{AreLinked, AreShaped, IsImage, empty};
 ghost use Rattle.chip_core.specs.Sim.{AreLinked-prop, tables_of};
 ghost use Rattle.chip_core.specs.Slots.{host_at, host_entries, host_rows};
 ghost use Rattle.chip_core.specs.Sound.{is_chip};
-ghost use Rattle.chip_core.specs.Tables.{IsGroupRow, IsSlotted, IsSlotted-prop, MembersHeld, RoutesHeld};
+ghost use Rattle.chip_core.specs.Tables.{IsSlotted, IsSlotted-prop};
 ghost use Rattle.chip_core.specs.Taken.{taken};
 ghost use Rattle.sorted_table.specs.Rows.{IsSorted, IsSorted-prop};
 
 use crate::named::{GroupTable, HostTable};
 use crate::slots::{Named, SlotTable};
-use crate::{Full, HwSwitch, RowsFault, WriteCount, image};
+use crate::{Full, HwSwitch, RowsFault, WriteCount, image, shape};
 use net_types::{
     Caps, GroupKey, GroupRow, GroupRowList, HostKey, HostRow, HostRowList, ItemList, L2Key, L2Row,
     MemberList, NoMemory, RouteKey, RouteRow, Tables,
@@ -56,14 +56,19 @@ impl SimChip {
     }
 
     /// A chip with these tables, slots included, which has had no writes. BadRows where they break a
-    /// rule of the chip's tables, or a group names a host twice.
+    /// rule of the chip's tables, or a group names a host twice. All of that is tested before memory
+    /// is taken, save that a host or a group stands in two slots.
     pub fn from_rows(alloc: Global, caps: Caps, tables: Tables) -> Result<SimChip, RowsFault>
         ensures raw { IfOk result (λ chip. ⟦<SimChip as HwSwitch>⟧.raw chip ≡ tables) }
         ensures caps { IfOk result (λ chip. ⟦<SimChip as HwSwitch>⟧.caps chip ≡ caps) }
         ensures writes { IfOk result (λ chip. ⟦<SimChip as HwSwitch>⟧.writes chip ≡ 0) }
         ensures image { OnOk result (IsImage caps tables) }
         ensures bad { result ≡ Err RowsFault.BadRows → ¬ IsImage caps tables }
+        ensures shaped { result ≡ Err RowsFault.NoMemory → AreShaped caps tables }
     {
+        if !shape::are_shaped(caps, &tables) {
+            return Err(RowsFault::BadRows);
+        }
         let Tables {
             l2,
             host,
@@ -82,11 +87,7 @@ impl SimChip {
             Ok(table) => table,
             Err(fault) => return Err(fault),
         };
-        let route = route.into_vec();
-        if !are_linked(&hosts, &groups, group.as_slice(), route.as_slice()) {
-            return Err(RowsFault::BadRows);
-        }
-        let routes = match sorted_table(alloc, caps.route, route) {
+        let routes = match sorted_table(alloc, caps.route, route.into_vec()) {
             Ok(table) => table,
             Err(fault) => return Err(fault),
         };
@@ -346,34 +347,16 @@ fn group_table(
     capacity: u32,
     groups: &[(u32, MemberList)],
 ) -> Result<GroupTable, RowsFault>
+    requires { All (λ group. IsGroupLength (length group.1)) groups.now }
     ensures rows { IfOk result (λ table. table.rows ≡ groups.now) }
     ensures capacity { IfOk result (λ table. table.capacity ≡ capacity) }
     ensures slotted { IfOk result (λ table. IsSlotted group_key_cmp group_key_of table.capacity table.rows) }
-    ensures groups { OnOk result (All (λ group. IsGroupRow group.1) groups.now) }
-    ensures bad { result ≡ Err RowsFault.BadRows
-        → ¬ (IsSlotted group_key_cmp group_key_of capacity groups.now × All (λ group. IsGroupRow group.1) groups.now) }
+    ensures bad { result ≡ Err RowsFault.BadRows → ¬ IsSlotted group_key_cmp group_key_of capacity groups.now }
 {
-    let rows = match image::group_rows(alloc, groups) {
-        Ok(rows) => rows,
-        Err(fault) => return Err(fault),
-    };
-    slot_table(alloc, capacity, rows)
-}
-
-/// Whether what members and routes lead to is there.
-fn are_linked(
-    hosts: &HostTable,
-    groups: &GroupTable,
-    members: &[(u32, MemberList)],
-    routes: &[(RouteKey, RouteRow)],
-) -> bool
-    ensures { IsTrue result ↔ (MembersHeld hosts.now.rows members.now
-        × RoutesHeld hosts.now.rows groups.now.rows routes.now) }
-{
-    if !image::are_groups_held(hosts, members) {
-        return false;
+    match image::group_rows(alloc, groups) {
+        Ok(rows) => slot_table(alloc, capacity, rows),
+        Err(_) => Err(RowsFault::NoMemory),
     }
-    image::are_routes_held(hosts, groups, routes)
 }
 
 /// The rows of the host table, as they are listed.

@@ -265,7 +265,7 @@ fn take_slots<V: Drop>(
 }
 
 /// Whether each slot is below the capacity.
-fn are_below<V>(rows: &[(u32, V)], capacity: u32) -> bool
+pub(crate) fn are_below<V>(rows: &[(u32, V)], capacity: u32) -> bool
     ensures { IsTrue result ↔ All (λ row. row.0 < capacity) rows.now }
 {
     rows.iter().all(|row| row.0 < capacity)

@@ -5,6 +5,8 @@
 use agent_run::{Status, agent_main};
 use io_edge::{MemSink, MemSource, MemStore, OpenGate};
 use net_types::{NoMemory, NumList};
+use observer_kinds::TotalsObserver;
+use observers::Observers;
 use std::alloc::Global;
 use std::rt::Files;
 use std::sync::Wait;
@@ -32,6 +34,7 @@ fn report_of<R: Threads + Wait + Sync>(
 ) -> Result<Option<Vec<u8>>, NoMemory> {
     let mut words = Vec::new(alloc);
     words.push(String::from_str(alloc, "run")?)?;
+    let observers: Observers<TotalsObserver> = Observers::new(Vec::new(alloc));
     let mut source = MemSource::new(script, 4096, NumList::new(alloc));
     let mut sink = MemSink::new(alloc, 4096, NumList::new(alloc));
     let mut store = MemStore::new(alloc, NumList::new(alloc));
@@ -43,6 +46,7 @@ fn report_of<R: Threads + Wait + Sync>(
         &mut sink,
         &mut store,
         &OpenGate,
+        observers,
     );
     match status {
         Status::Done => Ok(Some(sink.bytes().to_vec(alloc)?)),

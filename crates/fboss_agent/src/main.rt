@@ -4,7 +4,9 @@
 
 use agent_run::{Status, agent_main};
 use io_edge::{MemStore, OpenGate, StdSink, StdSource};
-use net_types::NumList;
+use net_types::{NoMemory, NumList};
+use observer_kinds::TotalsObserver;
+use observers::Observers;
 use std::alloc::Global;
 use std::process::ExitCode;
 use std::rt::Env;
@@ -19,6 +21,13 @@ fn words_of<R: Env + AllocGlobal>(rt: &R, alloc: Global) -> io::Result<Vec<Strin
     Ok(words)
 }
 
+/// One observer, which counts what is published.
+fn one_observer(alloc: Global) -> Result<Observers<TotalsObserver>, NoMemory> {
+    let mut list = Vec::new(alloc);
+    list.push(TotalsObserver::new())?;
+    Ok(Observers::new(list))
+}
+
 fn main(rt: HostRuntime) -> ExitCode {
     let alloc = rt.alloc();
     let words = match words_of(&rt, alloc) {
@@ -28,6 +37,9 @@ fn main(rt: HostRuntime) -> ExitCode {
         }
         // A word that isn't UTF-8 is no command, and neither is an empty list of words.
         Err(_) => Vec::new(alloc),
+    };
+    let Ok(observers) = one_observer(alloc) else {
+        return ExitCode::from(Status::NoMemory.code());
     };
     let mut source = StdSource::new(rt.stdin());
     let mut sink = StdSink::new(rt.stdout());
@@ -40,6 +52,7 @@ fn main(rt: HostRuntime) -> ExitCode {
         &mut sink,
         &mut store,
         &OpenGate,
+        observers,
     );
     ExitCode::from(status.code())
 }

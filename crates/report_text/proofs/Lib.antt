@@ -1,3 +1,4 @@
-pub mod VersionLaws
 pub mod RowLaws
 pub mod Writes
+pub mod PlaceLaws
+pub mod AnswerLaws

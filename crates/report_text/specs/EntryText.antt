@@ -96,10 +96,13 @@ abbrev pub kind_text : RoundKind → List ℕ
 kind_text Whole = codes "whole"
 kind_text One = codes "one"
 
--- a round of that number, with the version after it, and its entries from that position on
+-- the line with which a round of that number begins, with the version after the round
+abbrev pub round_line : ℕ → RoundKind → ℕ → List ℕ
+round_line number kind version = codes "round " ++ (decimal number ++ (codes " " ++ (kind_text kind ++ (codes " version " ++ (decimal version ++ codes "\n")))))
+
+-- that line, and the round's entries from that position on
 abbrev pub round_text : ℕ → ℕ → ℕ → Round → List ℕ
-round_text number position version round =
-    codes "round " ++ (decimal number ++ (codes " " ++ (kind_text round.kind ++ (codes " version " ++ (decimal version ++ (codes "\n" ++ entries_text position round.entries))))))
+round_text number position version round = round_line number round.kind version ++ entries_text position round.entries
 
 -- rounds from that number, position and version on
 abbrev pub rounds_text : ℕ → ℕ → ℕ → List Round → List ℕ

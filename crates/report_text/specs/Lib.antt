@@ -1,3 +1,4 @@
 pub mod EntryText
 pub mod RowText
 pub mod Report
+pub mod AnswerFound

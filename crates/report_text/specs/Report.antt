@@ -1,13 +1,15 @@
 -- The report of a run.
-use Rattle.std.specs.Prelude.{ℕ, Bool, List, ◌++◌, length, codes, if◌then◌else◌}
+use Rattle.std.specs.Prelude.{ℕ, ◌+◌, Bool, List, [], ◌∷◌, ◌++◌, length, codes, if◌then◌else◌}
 use Rattle.std.specs.Fmt.{decimal}
+use Rattle.answer_forms.specs.AnswerText.{totals_text}
 use Rattle.net_types.specs.declared.table.Caps.{Caps}
 use Rattle.net_types.specs.Rows.{Rows}
 use Rattle.switch_model.specs.declared.journal.Round.{Round}
+use Rattle.switch_model.specs.declared.record.Totals.{Totals}
 use Rattle.switch_model.specs.declared.reply.Reply.{Reply}
 use Rattle.switch_model.specs.Journal.{Journal, entries_of, version_after}
 use Rattle.report_text.specs.EntryText.{replies_text, rounds_text}
-use Rattle.report_text.specs.RowText.{l2_text}
+use Rattle.report_text.specs.RowText.{rows_text}
 
 abbrev pub caps_text : Caps → List ℕ
 caps_text caps = decimal caps.l2 ++ (codes " " ++ (decimal caps.host ++ (codes " " ++ (decimal caps.group ++ (codes " " ++ decimal caps.route)))))
@@ -20,24 +22,28 @@ head_part warm caps version =
 abbrev pub replies_part : List (ℕ × Reply) → List ℕ
 replies_part replies = codes "replies " ++ (decimal (length replies) ++ (codes "\n" ++ replies_text replies))
 
--- the rounds that follow a version, behind their counts and the last version
+-- how many entries and rounds a journal has, and the version after them
+abbrev pub journal_line : ℕ → ℕ → ℕ → List ℕ
+journal_line entries rounds version = codes "journal entries " ++ (decimal entries ++ (codes " rounds " ++ (decimal rounds ++ (codes " version " ++ (decimal version ++ codes "\n")))))
+
+-- the rounds that follow a version, behind that line
 abbrev pub journal_part : ℕ → List Round → List ℕ
 journal_part version rounds =
-    let all = entries_of rounds in
-    codes "journal entries " ++ (decimal (length all) ++ (codes " rounds " ++ (decimal (length rounds) ++ (codes " version " ++ (decimal (version_after version all) ++ (codes "\n" ++ rounds_text 0 0 version rounds))))))
+    let all = entries_of rounds in journal_line (length all) (length rounds) (version_after version all) ++ rounds_text 0 0 version rounds
 
--- the host, group and route tables are empty
-abbrev pub tables_part : Rows → List ℕ
-tables_part rows = codes "tables l2 " ++ (decimal (length rows.l2) ++ (codes " host 0 group 0 route 0\n" ++ l2_text rows.l2))
+-- a line for each observer, from that number on: the version and the counts at which it stands
+abbrev pub observers_text : ℕ → List (ℕ × Totals) → List ℕ
+observers_text k [] = []
+observers_text k (s ∷ ss) = codes "observer " ++ (decimal k ++ (codes " version " ++ (decimal s.0 ++ (codes " " ++ (totals_text s.1 ++ (codes "\n" ++ observers_text (k + 1) ss))))))
 
--- nobody observes
-abbrev pub tail_part : List ℕ
-tail_part = codes "observers 0\nend\n"
+abbrev pub observers_part : List (ℕ × Totals) → List ℕ
+observers_part standings = codes "observers " ++ (decimal (length standings) ++ (codes "\n" ++ (observers_text 0 standings ++ codes "end\n")))
 
--- the report of rounds after an opening, with the rows of the chip's tables
-abbrev pub report_of : Bool → Caps → ℕ → List Round → List (ℕ × Reply) → Rows → List ℕ
-report_of warm caps version rounds replies rows = head_part warm caps version ++ (replies_part replies ++ (journal_part version rounds ++ (tables_part rows ++ tail_part)))
+-- the report of rounds after an opening, with the rows of the chip's tables, and where the observers stand
+abbrev pub report_of : Bool → Caps → ℕ → List Round → List (ℕ × Reply) → Rows → List (ℕ × Totals) → List ℕ
+report_of warm caps version rounds replies rows standings =
+    head_part warm caps version ++ (replies_part replies ++ (journal_part version rounds ++ (rows_text rows ++ observers_part standings)))
 
 -- the report of a journal and of what its callers were told
-abbrev pub report : Bool → Journal → List (ℕ × Reply) → Rows → List ℕ
-report warm j replies rows = report_of warm j.opening.caps j.opening.version j.rounds replies rows
+abbrev pub report : Bool → Journal → List (ℕ × Reply) → Rows → List (ℕ × Totals) → List ℕ
+report warm j replies rows standings = report_of warm j.opening.caps j.opening.version j.rounds replies rows standings

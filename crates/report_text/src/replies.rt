@@ -51,7 +51,8 @@ fn write_reply_lines(out: &mut Page, replies: &[(u64, Reply)]) -> Result<(), NoM
     Ok(())
 }
 
-pub(crate) fn write_replies(out: &mut Page, replies: &ReplyList) -> Result<(), NoMemory>
+/// What callers were told: how many replies there are, and a line for each.
+pub fn write_replies(out: &mut Page, replies: &ReplyList) -> Result<(), NoMemory>
     ensures { OnOk result (out.new ≡ out.old ++ replies_part replies.now) }
 {
     let count = replies.len();

@@ -1,9 +1,10 @@
 // The words for tables, reasons, verdicts, kinds of round and ports' states.
 ghost use Rattle.std.specs.Prelude.{◌≡◌, Some, codes, if◌then◌else◌};
 ghost use Rattle.report_text.specs.EntryText.{table_text, reason_text, verdict_text, kind_text};
-ghost use Rattle.report_text.specs.RowText.{up_text};
+ghost use Rattle.report_text.specs.RowText.{mark_text, up_text};
+ghost use Rattle.script_text.specs.UpdateText.{client_text};
 
-use net_types::Table;
+use net_types::{Client, Table};
 use std::fmt;
 use switch_model::{Reason, RoundKind, Verdict};
 
@@ -72,6 +73,25 @@ pub(crate) fn up_word(up: bool) -> &'static str
     ensures { result.now ≡ up_text up }
 {
     if up { "up" } else { "down" }
+}
+
+/// The word for a client.
+pub(crate) fn client_word(client: Client) -> &'static str
+    ensures { result.now ≡ client_text client }
+{
+    match client {
+        Client::Interface => "interface",
+        Client::Static => "static",
+        Client::Openr => "openr",
+        Client::Ebgp => "ebgp",
+        Client::Ibgp => "ibgp",
+    }
+}
+
+pub(crate) fn mark_word(live: bool) -> &'static str
+    ensures { result.now ≡ mark_text live }
+{
+    if live { "live" } else { "dead" }
 }
 
 /// A verdict as it is printed.

@@ -1,6 +1,6 @@
 use Rattle.std.proofs.Common.{arith}
 use Rattle.std.specs.String.{string_bytes}
-use Rattle.agent_run.proofs.TopLaws.{one_word}
+use Rattle.run_outcome.proofs.TopLaws.{one_word}
 use Rattle.agent_run.proofs.top.is_run_command.Goals as goal
 
 pub returns-then-len-eq1 : goal.returns-then-len-eq1

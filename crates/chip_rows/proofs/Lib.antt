@@ -1,0 +1,5 @@
+mod Gathered
+mod SlotLaws
+mod RowLaws
+mod SameLaws
+mod DifferenceLaws

@@ -1,0 +1,6 @@
+use Rattle.std.proofs.Common.{◌∙◌}
+use Rattle.chip_rows.proofs.SameLaws.{host_key_same, host_same, tested_as}
+use Rattle.chip_rows.proofs.compare.are_hosts_same.Goals as goal
+
+pub returns : goal.returns
+returns c = c.eq.ensures ∙ tested_as _ _ _ _ c.args.a.now c.args.b.now host_key_same host_same

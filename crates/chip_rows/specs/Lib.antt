@@ -1,0 +1,2 @@
+pub mod BySlot
+pub mod Difference

@@ -1,0 +1,3 @@
+mod Extending
+mod Attempting
+mod FirstRows

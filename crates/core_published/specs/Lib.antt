@@ -1,0 +1,2 @@
+pub mod ChipCaps
+pub mod Refusals

@@ -1,0 +1,3 @@
+pub mod TopLaws
+pub mod RunLaws
+pub mod OrderLaws

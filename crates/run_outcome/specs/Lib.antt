@@ -1,0 +1,5 @@
+pub mod Code
+pub mod Refusal
+pub mod Opening
+pub mod Reports
+pub mod Top

@@ -1,0 +1,4 @@
+pub mod DeskLaws
+pub mod CallLaws
+pub mod AnswerLaws
+pub mod AloneLaws

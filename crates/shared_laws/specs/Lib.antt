@@ -1,0 +1,4 @@
+pub mod Ground
+pub mod Callers
+pub mod Calls
+pub mod Closing

@@ -1,0 +1,3 @@
+mod DeskLaws
+mod AgentLaws
+mod AnswerLaws

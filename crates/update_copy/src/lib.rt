@@ -1,0 +1,7 @@
+//! Copies of updates.
+#![tactic(auto)]
+
+mod small;
+mod whole;
+
+pub use whole::copy_update;

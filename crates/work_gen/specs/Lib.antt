@@ -1,0 +1,5 @@
+pub mod Values
+pub mod Draws
+pub mod Base
+pub mod Generated
+pub mod Examples
