@@ -1,4 +1,3 @@
-mod BaseLaws
 mod StandingLaws
 mod RowLaws
 mod RunningLaws

@@ -5,7 +5,7 @@ use Rattle.std.specs.Prelude.{IfErr, IfOk, MatchOption}
 use Rattle.agent_core.specs.declared.fault.OpenFault.{OpenFault}
 use Rattle.agent_core.specs.declared.fault.OpenFault.TheVariants as opening
 use Rattle.agent_run.specs.declared.run.Work.{Work}
-use Rattle.agent_run.specs.Base.{IsLaid}
+use Rattle.base_state.specs.Base.{IsLaid}
 use Rattle.agent_run.specs.Run.{IsOverfull, ReportsRun, opening_of, report_by, report_of, unopened}
 use Rattle.agent_run.specs.Script.{ReportsScript}
 use Rattle.agent_run.specs.Standing.{standing_of, sures_of}
@@ -19,7 +19,7 @@ use Rattle.net_types.specs.declared.table.Caps.{Caps}
 use Rattle.net_types.specs.declared.table.Table.{Table}
 use Rattle.observers.specs.Watch.{Watch, at_state}
 use Rattle.run_outcome.specs.declared.refusal.Refusal.{Refusal}
-use Rattle.run_outcome.specs.declared.refusal.Refusal.TheVariants.{Byte, Word, NotBuilt, Base, Opening as OpeningFull}
+use Rattle.run_outcome.specs.declared.refusal.Refusal.TheVariants.{Byte, Word, NotBuilt, Base, Opening as OpeningFull, Saved}
 use Rattle.run_outcome.specs.declared.refusal.RunFault.{RunFault}
 use Rattle.run_outcome.specs.declared.refusal.RunFault.TheVariants as run
 use Rattle.run_outcome.specs.Opening.{IsBuilt, IsOpening}
@@ -134,6 +134,7 @@ too_big script caps s (Byte line) start base found = absurd found
 too_big script caps s (Word line word) start base found = absurd found
 too_big script caps s NotBuilt start base found = absurd found
 too_big script caps s (Base line reason) start base found = absurd found
+too_big script caps s (Saved why) start base found = absurd found
 
 pub script_too_big : {X : Type 0} (script : Script) (caps : Caps) (s : StateView) (r : Result X RunFault) → script.start ≡ Cold caps → IsLaid script.base s → IfErr r (OrNoMemory (IsOverfull (over (rows (plain s)) caps))) → IfErr r (OrNoMemory (IsBaseRefused script))
 script_too_big script caps s (Ok x) start base found = tt
@@ -147,6 +148,7 @@ refused_built script (OpeningFull t) built refused = (built, refused)
 refused_built script (Byte line) built refused = absurd refused
 refused_built script (Word line word) built refused = absurd refused
 refused_built script NotBuilt built refused = absurd refused
+refused_built script (Saved why) built refused = absurd refused
 
 pub script_refused : {X : Type 0} (script : Script) (r : Result X RunFault) → IsBuilt script → IfErr r (OrNoMemory (IsBaseRefused script)) → IfErr r (OrNoMemory (IsScriptRefused script))
 script_refused script (Ok x) built refused = tt

@@ -1,4 +1,3 @@
-pub mod Base
 pub mod Standing
 pub mod Run
 pub mod Script

@@ -1,7 +1,6 @@
 //! The program as one call: a script is read, run on a switch of its capacities, and reported.
 #![tactic(auto)]
 
-mod base;
 mod report;
 mod run;
 mod standing;

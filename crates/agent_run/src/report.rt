@@ -15,8 +15,8 @@ ghost use Rattle.switch_model.specs.Rows.{rows};
 ghost use Rattle.switch_model.specs.Sound.{IsSound};
 ghost use Rattle.switch_state.specs.Plain.{plain};
 
-use crate::base::{Base, lay};
 use crate::run::{Work, run_on};
+use base_state::{Base, lay};
 use chip_core::SimChip;
 use net_types::Caps;
 use observers::{Observers, StateObserver};

@@ -3,7 +3,6 @@
 //! from where it is kept, an entry at a time.
 #![tactic(auto)]
 
-mod journal;
 mod report;
 
 pub use report::report_bytes;

@@ -5,9 +5,9 @@ ghost use Rattle.keyed.specs.Keyed.{Ascends};
 ghost use Rattle.net_types.specs.KeyOrder.{group_cmp};
 ghost use Rattle.report_text.specs.Report.{report};
 
-use crate::journal::write_journal;
 use chip_rows::RowLists;
 use core_published::Published;
+use journal_report::write_journal;
 use net_types::{Caps, NoMemory};
 use report_text::{
     ReportHead, StandingList, write_head, write_observers, write_replies, write_rows,

@@ -3,6 +3,7 @@
 #![tactic(auto)]
 
 mod calls;
+mod dir_store;
 mod faults;
 mod gate;
 mod mem_sink;
@@ -13,6 +14,7 @@ mod standard;
 mod texts;
 mod transfer;
 
+pub use dir_store::DirStore;
 pub use gate::{Gate, OpenGate};
 pub use mem_sink::MemSink;
 pub use mem_source::MemSource;

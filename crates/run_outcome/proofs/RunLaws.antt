@@ -9,7 +9,7 @@ use Rattle.net_types.specs.declared.table.Table.{Table}
 use Rattle.net_types.specs.declared.table.Tables.{Tables}
 use Rattle.report_text.specs.Report.{report}
 use Rattle.run_outcome.specs.declared.refusal.Refusal.{Refusal}
-use Rattle.run_outcome.specs.declared.refusal.Refusal.TheVariants.{Byte, Word, NotBuilt, Base, Opening as OpeningFull}
+use Rattle.run_outcome.specs.declared.refusal.Refusal.TheVariants.{Byte, Word, NotBuilt, Base, Opening as OpeningFull, Saved}
 use Rattle.run_outcome.specs.declared.refusal.RunFault.{RunFault}
 use Rattle.run_outcome.specs.declared.refusal.RunFault.TheVariants.{Refused, NoMemory}
 use Rattle.run_outcome.specs.Opening.{IsBuilt, IsOpening, IsRunnable}
@@ -84,6 +84,7 @@ not_refused script opening (OpeningFull t) is fits refused =
 not_refused script opening (Byte line) is fits refused = refused
 not_refused script opening (Word line word) is fits refused = refused
 not_refused script opening NotBuilt is fits refused = refused
+not_refused script opening (Saved why) is fits refused = refused
 
 script_refused : (bytes : List ℕ) (script : Script) (refusal : Refusal) → ((other : Script) → IsScript bytes other → script ≡ other) → IsScriptRefused script refusal → IsRunnable bytes → ⊥
 script_refused bytes script NotBuilt only refused can = refused (subst IsBuilt (sym (only can.0 can.2.is_script)) can.2.built)
@@ -91,6 +92,7 @@ script_refused bytes script (Base line reason) only refused can = not_refused sc
 script_refused bytes script (OpeningFull t) only refused can = not_refused script can.1 (OpeningFull t) (subst (λ (s : Script). IsOpening s can.1) (sym (only can.0 can.2.is_script)) can.2.opens) can.3 refused.1
 script_refused bytes script (Byte line) only refused can = refused.1
 script_refused bytes script (Word line word) only refused can = refused.1
+script_refused bytes script (Saved why) only refused can = refused.1
 
 -- what can be run isn't refused
 pub only_memory : {X : Type 0} (bytes : List ℕ) (script : Script) (r : Result X RunFault) → ((other : Script) → IsScript bytes other → script ≡ other) → IfErr r (OrNoMemory (IsScriptRefused script)) → IsRunnable bytes → IfErr r (λ fault. fault ≡ NoMemory)
@@ -105,6 +107,7 @@ refused_as bytes script (Base line reason) is refused = (script, is, refused)
 refused_as bytes script (OpeningFull t) is refused = (script, is, refused)
 refused_as bytes script (Byte line) is refused = absurd refused.1
 refused_as bytes script (Word line word) is refused = absurd refused.1
+refused_as bytes script (Saved why) is refused = absurd refused.1
 
 pub bytes_refused : {X : Type 0} (bytes : List ℕ) (script : Script) (r : Result X RunFault) → IsScript bytes script → IfErr r (OrNoMemory (IsScriptRefused script)) → IfErr r (OrNoMemory (IsRefused bytes))
 bytes_refused bytes script (Ok x) is refused = tt

@@ -8,7 +8,7 @@ use Rattle.io_edge.specs.Causes.{Rose, HasCause, WholeInput, ReadsPrefix, Append
 use Rattle.run_outcome.specs.declared.status.Status.{Status}
 use Rattle.run_outcome.specs.declared.status.Status.TheVariants as status
 use Rattle.run_outcome.specs.declared.refusal.Refusal.{Refusal}
-use Rattle.run_outcome.specs.declared.refusal.Refusal.TheVariants.{Byte, Word, NotBuilt, Base, Opening}
+use Rattle.run_outcome.specs.declared.refusal.Refusal.TheVariants.{Byte, Word, NotBuilt, Base, Opening, Saved}
 use Rattle.run_outcome.specs.declared.refusal.RunFault.{RunFault}
 use Rattle.run_outcome.specs.declared.refusal.RunFault.TheVariants as run
 use Rattle.run_outcome.specs.Opening.{IsRunnable}
@@ -52,6 +52,8 @@ served_complete sures words old new status.Script served = λ input is_run left 
 served_complete sures words old new status.OpeningFull served = λ input is_run left within is no_read no_write. absurd (no_refusal status.OpeningFull old new input served.1 left is)
 served_complete sures words old new status.TooLong served = λ input is_run left within is no_read no_write.
     absurd (omega (arith, within, prefix_within old.left new.left (longest_script + 1) input served.1 left))
+served_complete sures words old new status.StoreFault served = absurd served
+served_complete sures words old new status.Saved served = absurd served
 
 pub served_done : (sures : List Bool) (words : List (List ℕ)) (old new : Outside) (answer : Status) → Served sures words old new answer → answer ≡ status.Done → Reported sures old new
 served_done sures words old new answer served is = (subst (Served sures words old new) is served).1
@@ -65,6 +67,8 @@ served_words sures words old new status.ReadFault served other = absurd (other s
 served_words sures words old new status.WriteFault served other = absurd (other served.0)
 served_words sures words old new status.NoMemory served other = absurd (other served.0)
 served_words sures words old new status.TooLong served other = absurd (other served.0)
+served_words sures words old new status.StoreFault served other = absurd served
+served_words sures words old new status.Saved served other = absurd served
 
 pub served_misused : (sures : List Bool) (words : List (List ℕ)) (old new : Outside) (answer : Status) → Served sures words old new answer → answer ≡ status.Words → Misused words old new
 served_misused sures words old new answer served is = subst (Served sures words old new) is served
@@ -96,6 +100,8 @@ served_nothing sures words old new status.OpeningFull served = tt
 served_nothing sures words old new status.ReadFault served = served.2
 served_nothing sures words old new status.NoMemory served = served.1
 served_nothing sures words old new status.TooLong served = served.2
+served_nothing sures words old new status.StoreFault served = absurd served
+served_nothing sures words old new status.Saved served = tt
 
 -- what was done for the whole input
 pub served_answer : (sures : List Bool) (words : List (List ℕ)) (input : List ℕ) (old new : Outside) (answer : Status) → IsRunCommand words → ReadsAll old new input → Answered sures input old.written new.written old.write_faults new.write_faults answer → Served sures words old new answer
@@ -107,27 +113,31 @@ served_answer sures words input old new status.NoMemory is_run all done = (is_ru
 served_answer sures words input old new status.Words is_run all done = absurd done
 served_answer sures words input old new status.ReadFault is_run all done = absurd done
 served_answer sures words input old new status.TooLong is_run all done = absurd done
+served_answer sures words input old new status.StoreFault is_run all done = absurd done
+served_answer sures words input old new status.Saved is_run all done = absurd done
 
 -- a line that was to be written
 pub writes_line : {A E : Type 0} (r : Result A E) (old new : Option (List ℕ)) (before now : ℕ) (text : List ℕ) → OnOk r (Appends old new text) → OnErr r (AppendsPrefix old new text) → HasCause before now r → Writes old new before now text
 writes_line (Ok x) old new before now text all part cause = inl (all, cause.quiet)
 writes_line (Err e) old new before now text all part cause = inr (part, cause.failed)
 
--- a refusal has one of two statuses
+-- a refusal has one of three statuses
 abbrev IsRefusing : Status → Type 0
 IsRefusing status.Script = Unit {0}
 IsRefusing status.OpeningFull = Unit {0}
+IsRefusing status.Saved = Unit {0}
 IsRefusing answer = ⊥
 
-one_of_two : (refusal : Refusal) → IsRefusing (status_of refusal)
-one_of_two (Byte line) = tt
-one_of_two (Word line word) = tt
-one_of_two NotBuilt = tt
-one_of_two (Base line reason) = tt
-one_of_two (Opening table) = tt
+one_of_three : (refusal : Refusal) → IsRefusing (status_of refusal)
+one_of_three (Byte line) = tt
+one_of_three (Word line word) = tt
+one_of_three NotBuilt = tt
+one_of_three (Base line reason) = tt
+one_of_three (Opening table) = tt
+one_of_three (Saved why) = tt
 
 refusing : (refusal : Refusal) (answer : Status) → answer ≡ status_of refusal → IsRefusing answer
-refusing refusal answer is = subst IsRefusing (sym is) (one_of_two refusal)
+refusing refusal answer is = subst IsRefusing (sym is) (one_of_three refusal)
 
 -- an error line may be cut short
 pub error_stands : (refusal : Refusal) (before now : ℕ) → SinkStands (status_of refusal) before now
@@ -136,6 +146,7 @@ error_stands (Word line word) before now = tt
 error_stands NotBuilt before now = tt
 error_stands (Base line reason) before now = tt
 error_stands (Opening table) before now = tt
+error_stands (Saved why) before now = tt
 
 -- an error line that was to be written
 pub declined : {A E : Type 0} (r : Result A E) (old new : Option (List ℕ)) (before now : ℕ) (refusal : Refusal) (line : List ℕ) (answer : Status) → line ≡ refusal_line refusal → answer ≡ status_of refusal → OnOk r (Appends old new line) → OnErr r (AppendsPrefix old new line) → HasCause before now r → Declined refusal old new before now answer
@@ -151,7 +162,22 @@ declined r old new before now refusal line answer line_is answer_is all part cau
     told status.WriteFault is written = (is, written)
     told status.TooLong is written = (is, written)
     told status.OpeningFull is written = (is, written)
+    told status.StoreFault is written = (is, written)
+    told status.Saved is written = (is, written)
     told status.NoMemory is written = absurd (refusing refusal status.NoMemory is)
+
+-- bytes that aren't run are no saved text
+abbrev IsOfSaved : Status → Type 0
+IsOfSaved status.Saved = Unit {0}
+IsOfSaved answer = ⊥
+
+not_saved : (bytes : List ℕ) (refusal : Refusal) → IsRefused bytes refusal → status.Saved ≡ status_of refusal → ⊥
+not_saved bytes (Byte line) refused is = subst IsOfSaved is tt
+not_saved bytes (Word line word) refused is = subst IsOfSaved is tt
+not_saved bytes NotBuilt refused is = subst IsOfSaved is tt
+not_saved bytes (Base line reason) refused is = subst IsOfSaved is tt
+not_saved bytes (Opening table) refused is = subst IsOfSaved is tt
+not_saved bytes (Saved why) refused is = refused.2.1
 
 -- a refusal as an answer
 refused_answer : (sures : List Bool) (bytes : List ℕ) (refusal : Refusal) (old new : Option (List ℕ)) (before now : ℕ) (answer : Status) → IsRefused bytes refusal → (IsRunnable bytes → ⊥) → Declined refusal old new before now answer → Answered sures bytes old new before now answer
@@ -163,6 +189,8 @@ refused_answer sures bytes refusal old new before now status.Words is never told
 refused_answer sures bytes refusal old new before now status.ReadFault is never told = absurd (refusing refusal status.ReadFault told.0)
 refused_answer sures bytes refusal old new before now status.WriteFault is never told = absurd (refusing refusal status.WriteFault told.0)
 refused_answer sures bytes refusal old new before now status.TooLong is never told = absurd (refusing refusal status.TooLong told.0)
+refused_answer sures bytes refusal old new before now status.StoreFault is never told = absurd (refusing refusal status.StoreFault told.0)
+refused_answer sures bytes refusal old new before now status.Saved is never told = absurd (not_saved bytes refusal is told.0)
 
 pub fault_answer : (sures : List Bool) (bytes : List ℕ) (fault : RunFault) (refusal : Refusal) (old new : Option (List ℕ)) (before now : ℕ) (answer : Status) → fault ≡ run.Refused refusal → OrNoMemory (IsRefused bytes) fault → (IsRunnable bytes → fault ≡ run.NoMemory) → Declined refusal old new before now answer → Answered sures bytes old new before now answer
 fault_answer sures bytes fault refusal old new before now answer is given only told =

@@ -114,7 +114,7 @@ pub record Misused (words : List (List ℕ)) (old new : Outside) : Type 0 where
   pub line : WritesLine old new (codes "error: words\n")
   pub unread : new.left ≡ old.left
 
--- nothing is written at a fault of the source, a refusal of memory, or an input that is too long
+-- nothing is written at a fault of the source or the store, a refusal of memory, or a text that is too long
 abbrev pub WritesNothing : Status → Outside → Outside → Type 0
 WritesNothing status.ReadFault old new = new.written ≡ old.written
 WritesNothing status.NoMemory old new = new.written ≡ old.written
@@ -123,6 +123,8 @@ WritesNothing status.Done old new = Unit {0}
 WritesNothing status.Words old new = Unit {0}
 WritesNothing status.Script old new = Unit {0}
 WritesNothing status.WriteFault old new = Unit {0}
+WritesNothing status.StoreFault old new = new.written ≡ old.written
+WritesNothing status.Saved old new = Unit {0}
 WritesNothing status.OpeningFull old new = Unit {0}
 
 -- the sink's count of faults stands where the whole report was written, or nothing
@@ -134,6 +136,8 @@ SinkStands status.TooLong before now = now ≡ before
 SinkStands status.Words before now = Unit {0}
 SinkStands status.Script before now = Unit {0}
 SinkStands status.WriteFault before now = Unit {0}
+SinkStands status.StoreFault before now = now ≡ before
+SinkStands status.Saved before now = Unit {0}
 SinkStands status.OpeningFull before now = Unit {0}
 
 -- a whole script that is run and isn't too long, with no fault on the way, is answered by its report or for want of memory
@@ -150,6 +154,8 @@ Served sures words old new status.Script = IsRunCommand words × Refused status.
 Served sures words old new status.OpeningFull = IsRunCommand words × Refused status.OpeningFull old new
 Served sures words old new status.ReadFault = IsRunCommand words × Rose old.read_faults new.read_faults × (new.written ≡ old.written)
 Served sures words old new status.WriteFault = IsRunCommand words × Rose old.write_faults new.write_faults × CutShort sures old new
+Served sures words old new status.StoreFault = ⊥
+Served sures words old new status.Saved = ⊥
 Served sures words old new status.NoMemory = IsRunCommand words × (new.written ≡ old.written)
 Served sures words old new status.TooLong = IsRunCommand words × ReadsPrefix old.left new.left (longest_script + 1) × (new.written ≡ old.written)
 
@@ -168,3 +174,5 @@ Answered sures bytes old new before now status.NoMemory = new ≡ old
 Answered sures bytes old new before now status.Words = ⊥
 Answered sures bytes old new before now status.ReadFault = ⊥
 Answered sures bytes old new before now status.TooLong = ⊥
+Answered sures bytes old new before now status.StoreFault = ⊥
+Answered sures bytes old new before now status.Saved = ⊥

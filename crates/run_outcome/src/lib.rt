@@ -7,5 +7,5 @@ mod refusal;
 mod status;
 
 pub use order::in_line_order;
-pub use refusal::{Refusal, RunFault, refusal_line, status_of, unread};
+pub use refusal::{Refusal, RunFault, SavedRefusal, refusal_line, status_of, unread};
 pub use status::Status;

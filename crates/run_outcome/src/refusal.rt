@@ -1,6 +1,6 @@
-// Why a script isn't run, and the line that says so.
-ghost use Rattle.std.specs.Prelude.{◌≡◌, IfOk};
-ghost use Rattle.run_outcome.specs.Refusal.{refusal_line, status_of, unread};
+// Why a script isn't run, or a saved text isn't taken over, and the line that says so.
+ghost use Rattle.std.specs.Prelude.{◌≡◌, ◌++◌, IfOk, OnOk};
+ghost use Rattle.run_outcome.specs.Refusal.{refusal_line, saved_words, status_of, unread};
 
 use crate::status::Status;
 use net_types::{NoMemory, Table};
@@ -9,7 +9,24 @@ use script_text::{Page, ScriptFault};
 use std::alloc::{AllocError, Global};
 use switch_model::Reason;
 
-/// Why a script isn't run. Lines count from 1, skipped ones included.
+/// Why a saved text isn't taken over: the first test that fails, in this order.
+#[derive(Clone, Copy, Debug, PartialEq, Eq)]
+pub enum SavedRefusal {
+    /// The bytes are no text of JSON.
+    NotJson,
+    /// The value isn't of the form of a saved text.
+    BadShape,
+    /// The digest isn't that of the body.
+    BadDigest,
+    /// An act that builds the state is invalid, and the first one is for this reason.
+    BadState(Reason),
+    /// The saved tables break a rule of the chip's tables.
+    BadRows,
+    /// The rows of that table, the first such, aren't those of the state.
+    ChipDiffers(Table),
+}
+
+/// Why a script isn't run, or a saved text isn't taken over. Lines count from 1, skipped ones included.
 #[derive(Clone, Copy, Debug, PartialEq, Eq)]
 pub enum Refusal {
     /// The first bad line has a byte that isn't allowed.
@@ -22,6 +39,8 @@ pub enum Refusal {
     Base { line: u64, reason: Reason },
     /// The rows of the base's state are over the capacity of that table.
     Opening(Table),
+    /// The saved text isn't taken over.
+    Saved(SavedRefusal),
 }
 
 /// Why there is no report.
@@ -70,8 +89,33 @@ pub fn refusal_line(alloc: Global, refusal: Refusal) -> Result<Vec<u8>, NoMemory
             let table = table_word(table);
             writeln!(page, "error: opening full {table}")?;
         }
+        Refusal::Saved(saved) => {
+            page.push_bytes(b"error: saved ")?;
+            write_saved(&mut page, saved)?;
+            page.push_bytes(b"\n")?;
+        }
     }
     Ok(page.into_bytes())
+}
+
+// Why a saved text isn't taken over, in words.
+fn write_saved(page: &mut Page, saved: SavedRefusal) -> Result<(), NoMemory>
+    ensures { OnOk result (page.new ≡ page.old ++ saved_words saved) }
+{
+    match saved {
+        SavedRefusal::NotJson => page.push_bytes(b"not json"),
+        SavedRefusal::BadShape => page.push_bytes(b"bad shape"),
+        SavedRefusal::BadDigest => page.push_bytes(b"bad digest"),
+        SavedRefusal::BadState(reason) => {
+            let reason = reason_word(reason);
+            write!(page, "bad state {reason}")
+        }
+        SavedRefusal::BadRows => page.push_bytes(b"bad rows"),
+        SavedRefusal::ChipDiffers(table) => {
+            let word = table_word(table);
+            write!(page, "chip differs {word}")
+        }
+    }
 }
 
 /// How a call of the program ends at a refusal.
@@ -80,6 +124,7 @@ pub fn status_of(refusal: Refusal) -> Status
 {
     match refusal {
         Refusal::Opening(_) => Status::OpeningFull,
+        Refusal::Saved(_) => Status::Saved,
         _ => Status::Script,
     }
 }

@@ -15,9 +15,13 @@ pub enum Status {
     ReadFault,
     /// The sink failed; a prefix of the output was written.
     WriteFault,
+    /// The store failed, or has no text of that name; nothing was written.
+    StoreFault,
+    /// The saved text isn't taken over; the error line was written.
+    Saved,
     /// Memory was refused; nothing was written.
     NoMemory,
-    /// The input is longer than a script may be; nothing was written.
+    /// The script, or the saved text, is longer than it may be; nothing was written.
     TooLong,
     /// The script's base has more rows than a table of the chip has room for; the error line was
     /// written.
@@ -35,6 +39,8 @@ impl Status {
             Status::Script => 3,
             Status::ReadFault => 4,
             Status::WriteFault => 5,
+            Status::StoreFault => 6,
+            Status::Saved => 7,
             Status::NoMemory => 8,
             Status::TooLong => 9,
             Status::OpeningFull => 10,

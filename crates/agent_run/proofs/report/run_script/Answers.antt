@@ -1,6 +1,6 @@
 use Rattle.std.proofs.Common.{Bool, List, map, refl, subst}
 use Rattle.agent_run.specs.declared.run.Work.{Work}
-use Rattle.agent_run.specs.Base.{IsBase}
+use Rattle.base_state.specs.Base.{IsBase}
 use Rattle.agent_run.specs.Standing.{sures_of}
 use Rattle.agent_run.proofs.RunningLaws.{script_reported, script_too_big}
 use Rattle.agent_run.proofs.report.run_script.Goals as goal

@@ -1,4 +1,4 @@
-use Rattle.std.proofs.Common.{◌≡◌, ◌<◌, ℕ, List, length, Option, None, Some, Result, Ok, Err, OnErr, IfSome, Vec, Global, ap, ◌∙◌}
+use Rattle.std.proofs.Common.{◌≡◌, ◌<◌, ℕ, List, length, None, Some, Result, Ok, Err, OnErr, Vec, Global, ap, ◌∙◌}
 use Rattle.std.proofs.lemmas.Result.{on_ok_weaker, on_err_weaker}
 use Rattle.io_edge.specs.Texts.{Texts, text_of, with_text, NeedsMemory}
 use Rattle.io_edge.proofs.Places.{look_none, look_some, change_text}

@@ -1,0 +1,4 @@
+pub mod TicketLaws
+pub mod SettlingLaws
+pub mod LineLaws
+pub mod SightLaws

@@ -1,0 +1,3 @@
+pub mod Work
+pub mod Summary
+pub mod BaseLaws

@@ -1,0 +1,4 @@
+mod BlockLaws
+mod CountLaws
+mod SumLaws
+mod WorkLaws
